@@ -1,0 +1,5 @@
+pub mod Counts
+pub mod Registers
+pub mod Ones
+pub mod Calls
+pub mod Rows
