@@ -1,5 +1,4 @@
 -- An answer as one number: the count, or the cause negated. Assumes nothing.
-use Prim.Native.Nat.{ℕ}
 use lib.IntN.{ℤ, pos, negℤ}
 use Rattle.std.specs.declared.result.Result.{Result}
 use Rattle.std.specs.declared.result.Result.the-variants.{Ok, Err}

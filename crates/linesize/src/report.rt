@@ -17,7 +17,7 @@ use std::io;
 use timing::counts::Divider;
 use timing::registers::Control;
 
-pub fn print_refusal(rt: &LibcRuntime, number: u64, fault: Fault) -> io::Result<()> {
+pub(crate) fn print_refusal(rt: &LibcRuntime, number: u64, fault: Fault) -> io::Result<()> {
     println!(rt, "line {number} is refused: {fault}")
 }
 
@@ -96,7 +96,7 @@ fn print_known(rt: &LibcRuntime, line: Line, field: &str) -> io::Result<()> {
 }
 
 /// Everything about one line, and whether the known figures are met.
-pub fn print_sizes(rt: &LibcRuntime, request: Request, text: &str) -> io::Result<()> {
+pub(crate) fn print_sizes(rt: &LibcRuntime, request: Request, text: &str) -> io::Result<()> {
     let Request {
         control,
         rate,

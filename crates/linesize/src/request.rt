@@ -5,7 +5,7 @@ use sizing::line::Line;
 
 /// The numbers as they were written, and the line that they make.
 #[derive(Clone, Copy)]
-pub struct Request {
+pub(crate) struct Request {
     pub control: u32,
     pub rate: u32,
     pub delay: u32,
@@ -14,12 +14,12 @@ pub struct Request {
 }
 
 /// Fields that are too few, too many or badly written.
-pub fn badly_written() -> Fault {
+pub(crate) fn badly_written() -> Fault {
     Fault::unplaced(Cause::BadFields)
 }
 
 // A decimal number, or a hexadecimal one behind 0x.
-pub fn read_number(field: &str) -> Result<u32, Fault> {
+pub(crate) fn read_number(field: &str) -> Result<u32, Fault> {
     if field.starts_with("+") {
         return Err(badly_written());
     }
@@ -46,7 +46,7 @@ fn read_field(field: Option<&str>) -> Result<u32, Fault> {
 }
 
 /// The nominal rate behind a ~, in bits a second.
-pub fn read_nominal(digits: &str) -> Result<u32, Fault> {
+pub(crate) fn read_nominal(digits: &str) -> Result<u32, Fault> {
     match read_number(digits)? {
         0 => Err(badly_written()),
         nominal => Ok(nominal),
@@ -69,7 +69,7 @@ fn check_known(field: &str) -> Result<(), Fault> {
 
 impl Request {
     /// What a line of input asks for. Nothing of it is printed where any of its fields is at fault.
-    pub fn read(text: &str) -> Result<Request, Fault> {
+    pub(crate) fn read(text: &str) -> Result<Request, Fault> {
         let mut fields = text.split_whitespace();
         let control = read_field(fields.next())?;
         let rate = read_field(fields.next())?;

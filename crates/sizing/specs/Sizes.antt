@@ -1,6 +1,6 @@
 -- The times of a line and what it can carry. Assumes nothing.
 use mathlib.Core.Bool.{Bool, _&&_}
-use Prim.Native.Nat.{ℕ, _+_, _*_, _/_}
+use Prim.Native.Nat.{ℕ, _+_, _*_}
 use lib.Dec.{leb}
 use Rattle.timing.specs.declared.registers.Control.{Control}
 use Rattle.timing.specs.Counts.{q}

@@ -2,4 +2,3 @@ pub mod Counts
 pub mod Registers
 pub mod Ones
 pub mod Calls
-pub mod Rows

@@ -3,4 +3,3 @@ pub mod calls;
 pub mod counts;
 pub mod ones;
 pub mod registers;
-pub mod rows;

@@ -2,7 +2,7 @@
 ghost use mathlib.Core.Path.{_≡_};
 ghost use Prim.Native.Nat.{_%_, _^_};
 ghost use Rattle.timing.specs.Registers.{width};
-ghost use Rattle.timing.specs.Ones.{odd-ones, parity-bit, parity-by, bits};
+ghost use Rattle.timing.specs.Ones.{odd-ones, parity-bit, parity-by};
 use crate::registers::CharacterLength;
 use crate::registers::Format;
 use crate::registers::Parity;
@@ -18,15 +18,15 @@ pub fn odd_ones(byte: u8) -> bool
     ODD_ONES[byte as usize]
 }
 
-/// The low bits of a character, as many as are sent.
-pub fn data_of(length: CharacterLength, character: u8) -> u8
-    ensures { λ r. ⌜ r ≡ character % 2 ^ width length ⌝ }
+/// The data bits among the bits of a character: its lowest L.
+pub fn data_of(length: CharacterLength, bits: u16) -> u8
+    ensures { λ r. ⌜ r ≡ bits % 2 ^ width length ⌝ }
 {
     match length {
-        CharacterLength::Five => character % 32,
-        CharacterLength::Six => character % 64,
-        CharacterLength::Seven => character % 128,
-        CharacterLength::Eight => character,
+        CharacterLength::Five => (bits % 32) as u8,
+        CharacterLength::Six => (bits % 64) as u8,
+        CharacterLength::Seven => (bits % 128) as u8,
+        CharacterLength::Eight => (bits % 256) as u8,
     }
 }
 
@@ -45,5 +45,8 @@ fn parity_for(parity: Parity, odd: bool) -> bool
 pub fn parity_bit_of(format: Format, character: u8) -> bool
     ensures { λ r. ⌜ r ≡ parity-bit format character ⌝ }
 {
-    parity_for(format.parity, odd_ones(data_of(format.length, character)))
+    parity_for(
+        format.parity,
+        odd_ones(data_of(format.length, character as u16)),
+    )
 }

@@ -1,6 +1,5 @@
 // The control register and a rate register, decoded.
 ghost use mathlib.Core.Path.{_≡_};
-ghost use mathlib.Core.Bool.{Bool};
 ghost use Prim.Native.Nat.{_+_, _*_, _<_, _≤_};
 ghost use Rattle.timing.specs.Registers.{bit, width, parity-bits, half-bits, samples, length-select, parity-select, stop-select, divider-select, control-of, decoded, half-count, half-count-by-bits};
 use crate::counts::Divider;

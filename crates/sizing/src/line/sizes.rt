@@ -1,6 +1,5 @@
 // What a line is made of, and what it can carry.
 ghost use mathlib.Core.Path.{_≡_};
-ghost use mathlib.Core.Bool.{true};
 ghost use Prim.Native.Nat.{_+_, _*_, _/_, _<_, _≤_};
 ghost use Rattle.std.specs.Results.{Cases, isOk};
 ghost use Rattle.faults.specs.declared.Cause.the-variants.{OutOfRange};

@@ -1,4 +1,3 @@
-use borrow.Author.Needs.{needs}
 use Rattle.timing.specs.Registers.{half-count}
 use Rattle.timing.proofs.registers.half_bit_of.Needs as need
 

@@ -1,0 +1,3 @@
+pub mod ReceiverLaw
+pub mod TimerLaw
+pub mod TransmitterLaw

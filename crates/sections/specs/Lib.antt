@@ -1,0 +1,4 @@
+pub mod Bits
+pub mod Receive
+pub mod Time
+pub mod Transmit
