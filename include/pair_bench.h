@@ -14,7 +14,7 @@ extern "C" {
 /* H, the internal clocks of half a bit (1 to 8192), of a rate register from 0 to 2047. */
 int64_t pair_bench_half_bit_count(uint32_t rate);
 
-/* The phi clocks within which a character that can be sent at once is stored at the other end (at most 753671), of a
+/* The deadline: the phi clocks within which a character that can be sent at once is to be stored at the other end (at most 753671), of a
    control register from 0 to 255, a rate register from 0 to 2047 and a cable's delay from 0 to 65535 phi clocks. */
 int64_t pair_bench_deadline(uint32_t control, uint32_t rate, uint32_t delay);
 

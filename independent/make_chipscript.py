@@ -18,7 +18,7 @@ under every Python.
 import sys
 
 CLOCKS_PER_LINE = 950
-LONGEST_RUN = 30_000  # clocks of one line, outside of the slow scenes
+LONGEST_RUN = 30_000  # clocks of one line, but for slow characters
 
 SMALL_RATES = [(1, 10), (2, 6), (3, 4), (5, 3), (1025, 4), (1026, 1), (1027, 1)]
 SLOW_RATES = [(0, 4), (1024, 2), (1023, 1), (2047, 1), (1592, 1), (1536, 1), (512, 1), (256, 1)]
@@ -69,6 +69,25 @@ class Chance:
 
     def happens(self, percent):
         return self.bits() % 100 < percent
+
+    def shuffled(self, items):
+        items = list(items)
+        for last in range(len(items) - 1, 0, -1):
+            at = self.between(0, last)
+            items[at], items[last] = items[last], items[at]
+        return items
+
+
+class Deck:
+    """Items drawn in random order, all of them before one comes again."""
+
+    def __init__(self, chance, items):
+        self.chance, self.items, self.left = chance, items, []
+
+    def draw(self):
+        if not self.left:
+            self.left = self.chance.shuffled(self.items)
+        return self.left.pop()
 
 
 class Registers:
@@ -176,6 +195,8 @@ class Script:
         self.clocks_left = CLOCKS_PER_LINE * most_lines
         self.chip = Registers()
         self.line, self.cts, self.dsr = 1, 0, 0
+        self.scenes = Deck(self.chance, [scene for scene, weight in SCENES for _ in range(weight)])
+        self.malformed = Deck(self.chance, MALFORMED)
 
     def full(self):
         return len(self.lines) >= self.most_lines
@@ -185,6 +206,7 @@ class Script:
 
     def open(self, control, transmit, receive, interval):
         self.chip.open(control, transmit, receive, interval)
+        self.dsr = 0
         self.say("O", control, transmit, receive, interval)
 
     def write(self, address, bit):
@@ -272,13 +294,17 @@ def open_chip(s):
         s.write(16, 1)
     if s.chance.happens(60):
         enable(s)
-    s.run(s.chance.between(1, 12))
+    if s.chance.happens(20):
+        feed(s, levels_of(s, s.character()))
+    s.run(s.chance.between(1, 12), 1)
 
 
 def enable(s):
-    for address in (18, 19, 20, 21):
-        if s.chance.happens(50):
-            s.write(address, s.bit())
+    """Interrupts, one by one or all of them."""
+    if s.chance.happens(40):
+        s.put(18, 4, 15)
+    else:
+        s.write(s.chance.between(18, 21), 1)
 
 
 def manual_setup(s):
@@ -296,7 +322,7 @@ def manual_setup(s):
         s.put(0, 16, transmit)
     if s.chance.happens(90):
         s.write(16, 1)
-    if s.chance.happens(40):
+    if s.chance.happens(20):
         enable(s)
 
 
@@ -309,6 +335,7 @@ def set_control(s):
         for i in range(8):
             s.write(i, control >> i & 1)
     elif way == "more":
+        s.put(8, 3, s.chance.between(0, 7))
         s.put(0, 11, control + 256 * s.chance.between(0, 7))
     else:
         s.write(14, 0)
@@ -351,6 +378,12 @@ def keep_rates_small(s):
         s.put(0, 12, transmit)
 
 
+def same_rates(s):
+    if s.chip.transmit != s.chip.receive:
+        s.put(11, 2, 3)
+        s.put(0, 12, s.chance.weighted(SMALL_RATES))
+
+
 # ---- Receiving ----
 
 
@@ -368,20 +401,35 @@ def damage(s, levels):
 
 
 def feed(s, levels):
+    """Bit by bit; one time in three, equal neighbours are one run. Now and then the format changes before the start sample, or something
+    else happens amid a bit."""
     bit = 2 * s.receive_half()
-    for level in levels:
-        if s.chance.happens(12):
-            first = s.chance.between(0, bit)
+    pieces = [(bit, level) for level in levels]
+    if s.chance.happens(33):
+        pieces = joined(pieces)
+    for i, (time, level) in enumerate(pieces):
+        if s.chance.happens(15 if i == 0 else 8):
+            first = s.chance.between(0, bit // 2 if i == 0 else time)
             s.run(first, level)
-            meddle(s)
-            s.run(bit - first)
+            turn_control_bit(s, s.chance.one_of([0, 1, 4, 5])) if i == 0 else meddle(s)
+            s.run(time - first)
         else:
-            s.run(bit, level)
+            s.run(time, level)
+
+
+def joined(pieces):
+    whole = []
+    for time, level in pieces:
+        if whole and whole[-1][1] == level:
+            whole[-1] = (whole[-1][0] + time, level)
+        else:
+            whole.append((time, level))
+    return whole
 
 
 def meddle(s):
     """Something that takes no time."""
-    kind = s.chance.weighted([("get", 4), ("take", 2), ("load", 3), ("control", 2), ("rate", 1), ("dsr", 1), ("interrupts", 2)])
+    kind = s.chance.weighted([("get", 2), ("take", 2), ("load", 2), ("control", 6), ("rate", 2), ("dsr", 1), ("interrupts", 2)])
     if kind == "get":
         some_get(s)
     elif kind == "take":
@@ -389,8 +437,7 @@ def meddle(s):
     elif kind == "load":
         s.load(s.character())
     elif kind == "control":
-        s.write(14, 1)
-        s.put(0, 8, s.chance.between(0, 255))
+        new_control(s)
     elif kind == "rate":
         new_rates(s)
     elif kind == "dsr":
@@ -399,12 +446,38 @@ def meddle(s):
         s.write(s.chance.between(18, 21), s.bit())
 
 
+def new_control(s):
+    """One bit of the control register turned over, or a new control register, or the lower bits of one."""
+    way = s.chance.weighted([("turn", 5), ("new", 2), ("lower", 1)])
+    if way == "turn":
+        turn_control_bit(s, s.chance.between(0, 7))
+    elif way == "new":
+        s.write(14, 1)
+        s.put(0, 8, s.chance.between(0, 255))
+    else:
+        s.write(14, 1)
+        s.put(0, s.chance.between(2, 6), s.chance.between(0, 63))
+        s.run(s.some_time())
+        s.write(14, 0)
+
+
+def turn_control_bit(s, at):
+    control = s.chip.control ^ 1 << at
+    s.write(14, 1)
+    s.put(at, 8 - at, control >> at)
+
+
 def new_rates(s):
+    """Both rates or one, or some bits of them."""
     which = s.chance.between(1, 3)  # LXDR, LRDR or both
     s.put(11, 2, which)
-    s.put(0, 11, s.chance.weighted(SMALL_RATES))
-    if which != 2:
-        s.write(11, 0)
+    if s.chance.happens(75):
+        s.put(0, 11, s.chance.weighted(SMALL_RATES))
+    else:
+        s.put(0, 3, s.chance.between(0, 7))
+        s.run(s.some_time())
+    if s.chip.lrdr or s.chip.lxdr:
+        s.put(11, 2, 0)
 
 
 def after_receiving(s):
@@ -419,9 +492,14 @@ def after_receiving(s):
 
 
 def receive(s):
+    """One to three characters, often while others are sent."""
     working(s)
+    if s.chance.happens(25):
+        new_rates(s)
     s.run(s.chance.between(1, 9), 1)
     for _ in range(s.chance.weighted([(1, 6), (2, 3), (3, 1)])):
+        if s.chance.happens(60):
+            give(s, s.character())
         levels = levels_of(s, s.character())
         if s.chance.happens(40):
             damage(s, levels)
@@ -436,13 +514,16 @@ def receive_break(s):
     working(s)
     s.run(s.chance.between(3, 9), 1)
     half = s.receive_half()
-    for _ in range(s.chance.between(2, 4)):
+    for _ in range(s.chance.between(1, 3)):
         s.run(s.near(half * s.chance.between(3, s.chip.half_bits)), 0)
     after_receiving(s)
-    s.run(s.near(half), 0)
+    if s.chance.happens(50):
+        s.run(s.chance.between(1, 2), 1)
+    s.run(half + s.chance.between(-2, 2 * s.chip.q), 0)
     s.run(s.chance.between(1, 6), 1)
-    feed(s, levels_of(s, s.character()))
-    after_receiving(s)
+    if s.chance.happens(50):
+        feed(s, levels_of(s, s.character()))
+        after_receiving(s)
 
 
 def false_start(s):
@@ -481,16 +562,25 @@ def give(s, character):
 
 
 def watch(s, clocks):
-    """Runs that show what is sent, for about these clocks."""
-    step = s.chance.one_of([s.chip.q, s.transmit_half(), 2 * s.transmit_half()])
-    step = max(step, clocks // 14)
-    while clocks > 0:
-        s.run(step, s.line ^ s.chance.happens(2))
-        clocks -= step
+    """A few runs that show what is sent, for these clocks in all."""
+    for _ in range(s.chance.between(1, 4)):
+        step = s.chance.one_of([s.chip.q, s.transmit_half(), 2 * s.transmit_half(), clocks // 2])
+        if 0 < step < clocks:
+            s.run(step)
+            clocks -= step
+    s.run(clocks)
 
 
 def slowly(s):
-    """Single clocks, which show when something happens."""
+    """Two internal clocks or one, the second way phi clock by phi clock."""
+    if s.chance.happens(70):
+        s.run(s.chip.q)
+        s.run(s.chip.q)
+    else:
+        singly(s)
+
+
+def singly(s):
     for _ in range(s.chip.q + 1):
         s.run(1)
 
@@ -501,7 +591,7 @@ def send(s):
     give(s, s.character())
     slowly(s) if s.chance.happens(40) else s.run(s.chip.q)
     time = s.transmit_character()
-    for _ in range(s.chance.between(1, 3)):
+    for _ in range(s.chance.between(1, 2)):
         event = s.chance.weighted([("next", 8), ("rts off", 4), ("cts off", 3), ("brkon", 3), ("format", 3), ("rate", 2), ("rts on", 1)])
         watch(s, s.chance.between(1, time // 2))
         sending_event(s, event)
@@ -520,8 +610,7 @@ def sending_event(s, event):
     elif event == "brkon":
         s.write(17, 1)
     elif event == "format":
-        s.write(14, 1)
-        s.put(0, 8, s.chance.between(0, 255))
+        new_control(s)
     else:
         new_rates(s)
 
@@ -549,11 +638,31 @@ def whole_character(s):
         s.load(s.character())
     if s.chance.happens(50):
         s.write(16, 0)
-    s.run(max(0, s.transmit_character() - s.chip.q - 2))
+    s.run(max(0, s.transmit_character() - 2 * s.chip.q - 2))
     slowly(s)
     slowly(s)
     if s.chance.happens(50):
         s.run(s.transmit_character())
+
+
+def format_changes(s):
+    """The control register changes while a character is sent and one received, mostly with parity. Both keep their format."""
+    working(s)
+    same_rates(s)
+    s.run(s.transmit_character() + 2 * s.chip.q, 1)
+    if not s.chip.parity and s.chance.happens(75):
+        turn_control_bit(s, 5)
+    s.load(s.character())
+    s.run(s.chip.q)
+    levels = levels_of(s, s.character())
+    at = s.chance.between(1, len(levels) - 1)
+    for i, level in enumerate(levels):
+        if i == at:
+            turn_control_bit(s, s.chance.one_of([0, 1, 4, 4, 5, 6, 7]))
+        s.run(2 * s.transmit_half(), level)
+    slowly(s)
+    if s.chance.happens(50):
+        s.take()
 
 
 def wait_for_cts(s):
@@ -572,6 +681,8 @@ def wait_for_cts(s):
 
 def send_break(s):
     working(s)
+    if s.chance.happens(25):
+        s.write(16, 0)
     s.run(s.chip.q, 1)
     s.write(17, 1)
     if s.chance.happens(30):
@@ -634,13 +745,60 @@ def break_and_reset(s):
     s.write(16, 1)
     s.write(7, s.bit())
     slowly(s)
-    slowly(s)
+    for _ in range(s.chip.data_bits):
+        s.run(2 * s.transmit_half())
+
+
+def request_to_send(s):
+    """RTSON on and off; RTS falls at an internal clock, and not while a character waits."""
+    if s.chance.happens(40):
+        s.run(s.chip.q, 1, 0)
+        s.load(s.character())
+    for _ in range(s.chance.between(3, 6)):
+        s.write(16, s.bit())
+        if s.chance.happens(70):
+            s.run(s.chance.between(1, s.chip.q))
+    s.run(s.chip.q, None, 1)
 
 
 # ---- Reset, registers ----
 
 
+def upset(s):
+    """Much is going on and many flags stand."""
+    working(s)
+    if s.chance.happens(70):
+        enable(s)
+    if s.chance.happens(50):
+        give(s, s.character())
+    s.run(s.chance.between(1, 9), 1)
+    if s.chance.happens(70):
+        levels = levels_of(s, s.character())
+        damage(s, levels)
+        feed(s, levels)
+    if s.chance.happens(60):
+        s.write(s.chance.one_of([13, 15, 15, 17]), 1)
+        s.run(s.chip.q, 1)
+    if s.chance.happens(60):
+        s.cts = s.bit()
+        give(s, s.character())
+        s.run(2 * s.receive_half() * s.chance.between(1, 4), 0)
+    if s.chance.happens(70):
+        turn_line(s)
+
+
+def turn_line(s):
+    """DSR or CTS changes, often not yet seen by an internal clock."""
+    if s.bit():
+        s.set_dsr(1 - s.dsr)
+        s.run(1)
+    else:
+        s.run(1, None, 1 - s.cts)
+
+
 def reset(s):
+    if s.chance.happens(60):
+        upset(s)
     if s.chance.happens(70):
         s.write(31, s.bit())
     else:
@@ -652,16 +810,23 @@ def reset(s):
         reset_meddling(s)
     else:
         recovery(s)
+    if s.chance.happens(40):
+        s.run(64 * s.chip.q * s.chance.between(1, 3), s.bit())
     manual_setup(s)
     s.run(s.chance.between(1, 12), 1)
+    if s.chance.happens(60):
+        s.chance.one_of([receive, whole_character])(s)
 
 
 def reset_meddling(s):
-    """Writes and clocks before the chip has recovered."""
+    """Writes and clocks before the chip has recovered, often another reset."""
     for _ in range(s.chance.between(1, 4)):
         s.write(s.chance.weighted(WRITES), s.bit())
         s.run(s.chance.between(1, 4), s.bit())
         any_call(s)
+    if s.chance.happens(80):
+        s.write(31, s.bit())
+        recovery(s)
     s.run(11)
 
 
@@ -696,8 +861,12 @@ def some_get(s):
 
 def reload(s):
     """Load flags in any combination, then puts under them."""
+    full = s.chance.happens(30)
+    if full:
+        s.run(s.chip.q, None, 0)
+        s.load(s.character())
     s.put(11, 4, s.chance.between(1, 15)) if s.chance.happens(60) else s.write(s.chance.between(11, 14), 1)
-    if s.chance.happens(40):
+    if full or s.chance.happens(30):
         s.load(s.character())
     for _ in range(s.chance.between(1, 4)):
         put_register(s)
@@ -709,11 +878,14 @@ def reload(s):
 
 
 def put_register(s):
-    count = s.chance.weighted([(8, 5), (11, 5), (12, 4), (16, 2), (s.chance.between(1, 16), 3)])
+    count = s.chance.weighted([(8, 5), (11, 5), (12, 4), (16, 2), (3, 3), (s.chance.between(1, 16), 2)])
     number = s.chance.weighted(SMALL_RATES) if count >= 11 else s.chance.weighted(INTERVALS + [(s.chance.between(0, 255), 12)])
     if count == 16:
         number += s.chance.between(0, 31) * 2048
-    s.put(0, count, number % 2**count)
+    if count == 3:
+        s.put(8, 3, s.chance.between(1, 7))
+    else:
+        s.put(0, count, number % 2**count)
 
 
 # ---- Timer, lines, test mode ----
@@ -733,18 +905,33 @@ def timer(s):
 
 
 def load_timer(s):
+    """The interval register, all of it or some bits, and the timer with it; or the bits alone, for the next time that it elapses."""
     s.put(13, 2, 1)
-    s.put(0, 8, s.chance.weighted(INTERVALS)) if s.chance.happens(80) else s.write(13, 0)
+    way = s.chance.weighted([("put", 5), ("none", 1), ("beyond", 2), ("bits", 2)])
+    if way == "put":
+        s.put(0, 8, s.chance.weighted(INTERVALS))
+    elif way == "beyond":
+        s.put(8, 3, s.chance.between(1, 7))
+        s.put(0, 8, s.chance.between(1, 2))
+    elif way == "bits":
+        s.put(0, 2, s.chance.between(0, 3))
+    else:
+        s.write(13, 0)
 
 
 def timer_elapses(s):
-    """To the internal clock before the timer elapses, and over it."""
+    """To the internal clock before the timer elapses, and over it. Amid that, test mode may change, or LDIR be written."""
     period = s.timer_period() or 64 * s.chip.q
     if s.chance.happens(20):
         s.run(s.chance.between(1, period))
         s.write(15, 1 - s.chip.tstmd)
         s.run(s.some_time())
-    s.run(max(0, period - s.chip.q - s.chance.between(0, 1)))
+    first = 0
+    if s.chance.happens(25):
+        first = s.chance.between(0, period // 2)
+        s.run(first)
+        s.write(13, s.bit())
+    s.run(max(0, period - first - s.chip.q - s.chance.between(0, 1)))
     for _ in range(s.chance.between(2, s.chip.q + 1)):
         s.run(1)
 
@@ -763,9 +950,8 @@ def control_lines(s):
 def test_mode(s):
     """The chip receives what it sends, whatever the line has."""
     working(s)
-    if s.chip.transmit != s.chip.receive and s.chance.happens(80):
-        s.put(11, 2, 3)
-        s.put(0, 12, s.chance.weighted(SMALL_RATES))
+    if s.chance.happens(80):
+        same_rates(s)
     s.write(15, 1)
     for _ in range(s.chance.between(1, 3)):
         give(s, s.character())
@@ -775,9 +961,12 @@ def test_mode(s):
         watch(s, s.transmit_character() + s.chip.q)
         if s.chance.happens(60):
             s.take()
-    if s.chance.happens(30):
+    if s.chip.brkon:
+        s.write(17, 0)
+    if s.chance.happens(50):
+        s.run(s.transmit_character())
         s.write(16, 0)
-        s.run(s.some_time())
+        singly(s)
     if s.chance.happens(80):
         s.line, s.cts = 1, 1
         s.write(15, 0)
@@ -805,7 +994,7 @@ def puts(s):
 def wide_number(s):
     """Bits of the number above the count do nothing."""
     count = s.chance.between(1, 15)
-    s.put(s.chance.between(15, 31 - count) if count < 16 else 15, count, s.chance.between(0, 65535))
+    s.put(s.chance.between(15, 31 - count), count, s.chance.between(0, 65535))
     s.run(s.some_time())
 
 
@@ -817,8 +1006,8 @@ def gets(s):
 
 
 def malformed(s):
-    for _ in range(s.chance.between(1, 2)):
-        s.say(s.chance.one_of(MALFORMED))
+    for _ in range(s.chance.between(1, 3)):
+        s.say(s.malformed.draw())
 
 
 def no_clocks(s):
@@ -826,48 +1015,56 @@ def no_clocks(s):
 
 
 def slow(s):
-    """Slow rates: one element sent and one bit received, each to the clock of its end, now and then a whole character."""
-    rate = s.chance.weighted(SLOW_RATES)
-    control = s.chance.between(0, 255)
-    if 30 * 4 * half_bit_count(rate) > s.clocks_left // 3:
-        return
+    slow_character(s, s.chance.between(0, 255), s.chance.weighted(SLOW_RATES), s.chance.happens(50))
+
+
+def slowest(s):
+    """The largest countdown: 2 stop bits at the slowest rate."""
+    slow_character(s, 64 + s.chance.one_of([0, 1, 2, 3, 32, 33, 48, 49]), 1024, True)
+
+
+def slow_character(s, control, rate, whole):
+    """The start of a character or all of it, each element to the clock of its end, while the line has a break."""
     s.open(control, rate, rate, s.chance.weighted(INTERVALS))
     s.write(16, 1)
     s.run(2 * s.chip.q, 1, 1)
     s.load(s.character())
-    bit = 2 * s.transmit_half()
     s.run(s.chip.q, 0, 1)
-    for _ in range(1 if s.chance.happens(60) else s.chip.data_bits + s.chip.parity + 2):
-        s.run(bit // 2 - 1, None, None, bit)
-        s.run(1)
-        s.run(bit // 2 - 1, None, None, bit)
+    half = s.transmit_half()
+    elements = [1, 1, 1, 1]
+    if whole and s.transmit_character() < s.clocks_left // 3:
+        elements += [2] * (s.chip.data_bits + s.chip.parity - 1) + [s.chip.stop]
+    for half_bits in elements:
+        s.run(half_bits * half - 1, None, None, 4 * half)
         s.run(1)
 
 
-# Each scene, its weight, and what it takes of the script on the whole.
+# Each scene and how often it is in the deck.
 SCENES = [
-    (receive, 12),
+    (receive, 8),
     (receive_break, 4),
-    (false_start, 5),
-    (noise, 4),
-    (send, 8),
+    (false_start, 4),
+    (noise, 3),
+    (send, 6),
     (whole_character, 4),
-    (wait_for_cts, 4),
-    (send_break, 5),
+    (format_changes, 5),
+    (wait_for_cts, 3),
+    (send_break, 4),
     (break_and_character, 3),
-    (break_and_reset, 0.7),
-    (reset, 5),
+    (break_and_reset, 1),
+    (request_to_send, 3),
+    (reset, 6),
     (reload, 6),
-    (timer, 7),
-    (control_lines, 6),
+    (timer, 6),
+    (control_lines, 5),
     (test_mode, 4),
-    (single_writes, 8),
+    (single_writes, 6),
     (puts, 4),
     (wide_number, 2),
-    (gets, 5),
-    (malformed, 3),
+    (gets, 4),
+    (malformed, 7),
     (no_clocks, 1),
-    (slow, 1),
+    (slow, 2),
 ]
 
 
@@ -884,10 +1081,13 @@ def before_open(s):
 def make(seed, most_lines):
     s = Script(seed, most_lines)
     before_open(s)
+    slowest(s)
     while not s.full():
         open_chip(s)
         for _ in range(s.chance.between(3, 9)):
-            s.chance.weighted(SCENES)(s)
+            s.scenes.draw()(s)
+        if s.chance.happens(15):
+            s.write(31, s.bit())
     return s.lines[:most_lines]
 
 

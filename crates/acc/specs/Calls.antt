@@ -6,6 +6,7 @@ use Rattle.std.specs.declared.result.Result.{Result}
 use Rattle.std.specs.declared.result.Result.the-variants.{Ok, Err}
 use Rattle.faults.specs.declared.Cause.{Cause}
 use Rattle.faults.specs.declared.Cause.the-variants.{Recovering, BufferNotEnabled, BufferFull, NothingReceived}
+use Rattle.timing.specs.Counts.{phi}
 use Rattle.sections.specs.Receive.{idle-receiver, released}
 use Rattle.sections.specs.Time.{timer-at}
 use Rattle.sections.specs.Transmit.{empty-transmitter, buffer-loaded}
@@ -19,8 +20,8 @@ use Rattle.acc.specs.Outputs.{write-of}
 use Rattle.acc.specs.State.{with-lines, with-transmitter, with-receiver, with-dsr-setting}
 
 -- RTS, CTS and DSR inactive, RIN mark
-abbrev pub quiet-lines : Lines
-quiet-lines = record {
+abbrev pub inactive-lines : Lines
+inactive-lines = record {
   rtson = false;
   rts = false;
   cts = false;
@@ -40,12 +41,12 @@ opened-chip r = record {
   load = record { ldctrl = false; ldir = false; lrdr = false; lxdr = false };
   modes = record { tstmd = false; brkon = false };
   enables = record { rienb = false; xbienb = false; timenb = false; dscenb = false };
-  lines = quiet-lines;
+  lines = inactive-lines;
   transmitter = empty-transmitter;
   receiver = idle-receiver;
   timer = timer-at (r .interval);
-  divider = 0;
-  recovery = 0;
+  divider = phi 0;
+  recovery = phi 0;
 }
 
 abbrev pub dsr-set : Bool → Acc → Acc
@@ -61,7 +62,7 @@ unless-refused (Err c) after before = before
 
 -- the chip was reset less than 11 φ clocks ago
 abbrev pub recovering : Acc → Bool
-recovering e = ltb 0 (e .recovery)
+recovering e = ltb 0 (e .recovery .0)
 
 -- a transfer has at most 16 bits
 abbrev pub transfer : ℕ → ℕ

@@ -2,7 +2,7 @@
 use mathlib.Core.Bool.{Bool, true, false, cond, not, _&&_, _||_}
 use Prim.Native.Nat.{ℕ, _+_, _-_}
 use lib.Dec.{leb}
-use Rattle.timing.specs.Counts.{q}
+use Rattle.timing.specs.Counts.{q, phi}
 use Rattle.timing.specs.Ones.{differ}
 use Rattle.timing.specs.Registers.{control-of}
 use Rattle.sections.specs.Receive.{listen}
@@ -31,10 +31,10 @@ abbrev pub q-of : Acc → ℕ
 q-of e = q (control-of (e .registers .control) .divider)
 
 abbrev pub fires : Acc → Bool
-fires e = leb (q-of e) (e .divider + 1)
+fires e = leb (q-of e) (e .divider .0 + 1)
 
 abbrev pub divided : Acc → Acc
-divided e = with-divider (cond (fires e) 0 (e .divider + 1)) e
+divided e = with-divider (phi (cond (fires e) 0 (e .divider .0 + 1))) e
 
 -- DSCH is set when DSR or CTS differs from the preceding internal clock
 abbrev pub status-compared : Lines → Lines
@@ -91,7 +91,7 @@ serve-of e = served e
 
 -- a recovery count above 0 falls by one, before the divider
 abbrev pub begun-clock : Bool → Bool → Acc → Acc
-begun-clock rin cts e = with-recovery (e .recovery - 1) (with-lines (lines-taken rin cts e) e)
+begun-clock rin cts e = with-recovery (phi (e .recovery .0 - 1)) (with-lines (lines-taken rin cts e) e)
 
 abbrev pub clocked : Bool → Bool → Acc → Acc
 clocked rin cts e =

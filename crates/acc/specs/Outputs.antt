@@ -2,6 +2,7 @@
 use mathlib.Core.Bool.{Bool, true, false, cond, not, _&&_, _||_}
 use Prim.Native.Nat.{ℕ}
 use lib.Dec.{eqb, leb}
+use Rattle.timing.specs.Counts.{phi}
 use Rattle.sections.specs.Bits.{bit-written}
 use Rattle.sections.specs.Receive.{released, reset-receiver}
 use Rattle.sections.specs.Time.{timer-loaded, timer-at, acknowledged}
@@ -115,8 +116,8 @@ reset-chip e = record {
   transmitter = reset-transmitter (e .transmitter);
   receiver = reset-receiver (e .receiver);
   timer = timer-at 0;
-  divider = 0;
-  recovery = 11;
+  divider = phi 0;
+  recovery = phi 11;
 }
 
 -- what a write does depends on its address and on the flags that stand; 22 to 30 do nothing

@@ -1,6 +1,7 @@
 -- The chip with one part changed, one function for each part. Assumes nothing.
 use mathlib.Core.Bool.{Bool}
 use Prim.Native.Nat.{ℕ}
+use Rattle.timing.specs.declared.counts.PhiCount.{PhiCount}
 use Rattle.sections.specs.declared.receiver.Receiver.{Receiver}
 use Rattle.sections.specs.declared.timer.Timer.{Timer}
 use Rattle.sections.specs.declared.transmitter.Transmitter.{Transmitter}
@@ -35,10 +36,10 @@ with-receiver x e = record { registers = e .registers; load = e .load; modes = e
 abbrev pub with-timer : Timer → Acc → Acc
 with-timer x e = record { registers = e .registers; load = e .load; modes = e .modes; enables = e .enables; lines = e .lines; transmitter = e .transmitter; receiver = e .receiver; timer = x; divider = e .divider; recovery = e .recovery }
 
-abbrev pub with-divider : ℕ → Acc → Acc
+abbrev pub with-divider : PhiCount → Acc → Acc
 with-divider x e = record { registers = e .registers; load = e .load; modes = e .modes; enables = e .enables; lines = e .lines; transmitter = e .transmitter; receiver = e .receiver; timer = e .timer; divider = x; recovery = e .recovery }
 
-abbrev pub with-recovery : ℕ → Acc → Acc
+abbrev pub with-recovery : PhiCount → Acc → Acc
 with-recovery x e = record { registers = e .registers; load = e .load; modes = e .modes; enables = e .enables; lines = e .lines; transmitter = e .transmitter; receiver = e .receiver; timer = e .timer; divider = e .divider; recovery = x }
 
 abbrev pub with-control : ℕ → Registers → Registers
@@ -46,12 +47,6 @@ with-control x e = record { control = x; interval = e .interval; «receive_rate�
 
 abbrev pub with-interval : ℕ → Registers → Registers
 with-interval x e = record { control = e .control; interval = x; «receive_rate» = e .«receive_rate»; «transmit_rate» = e .«transmit_rate» }
-
-abbrev pub with-receive-rate : ℕ → Registers → Registers
-with-receive-rate x e = record { control = e .control; interval = e .interval; «receive_rate» = x; «transmit_rate» = e .«transmit_rate» }
-
-abbrev pub with-transmit-rate : ℕ → Registers → Registers
-with-transmit-rate x e = record { control = e .control; interval = e .interval; «receive_rate» = e .«receive_rate»; «transmit_rate» = x }
 
 abbrev pub with-ldctrl : Bool → LoadFlags → LoadFlags
 with-ldctrl x e = record { ldctrl = x; ldir = e .ldir; lrdr = e .lrdr; lxdr = e .lxdr }

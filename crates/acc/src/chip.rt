@@ -2,6 +2,7 @@
 use sections::receiver::Receiver;
 use sections::timer::Timer;
 use sections::transmitter::Transmitter;
+use timing::counts::PhiCount;
 
 mod calls;
 mod clock;
@@ -68,9 +69,9 @@ pub struct Acc {
     pub receiver: Receiver,
     pub timer: Timer,
     /// φ clocks since the last internal clock.
-    pub divider: u8,
+    pub divider: PhiCount,
     /// φ clocks after a reset in which nothing may yet be read or written.
-    pub recovery: u8,
+    pub recovery: PhiCount,
 }
 
 /// A received character with its flags.

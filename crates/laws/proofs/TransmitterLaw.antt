@@ -12,24 +12,20 @@ use borrow.Author.Tests.{lt-leb, ne-eqb}
 use Rattle.std.proofs.shelf.Bits.{mul-le}
 use Rattle.timing.proofs.Bits.{bits-low, bits-above}
 use Rattle.timing.proofs.HalfBits.{half-count-some}
-use Rattle.timing.specs.declared.counts.InternalCount.{InternalCount}
 use Rattle.timing.specs.declared.registers.Format.{Format}
 use Rattle.timing.specs.declared.registers.Parity.{Parity}
 use Rattle.timing.specs.declared.registers.Parity.the-variants.{Disabled, Even, Odd}
 use Rattle.timing.specs.declared.registers.StopLength.{StopLength}
 use Rattle.timing.specs.declared.registers.StopLength.the-variants.{One, OneAndHalf, Two}
+use Rattle.timing.specs.Counts.{internal}
 use Rattle.timing.specs.Ones.{bits, parity-bit}
 use Rattle.timing.specs.Registers.{width, samples, parity-bits, half-bits, half-count, control-of}
 use Rattle.sections.specs.declared.transmitter.Sending.{Sending}
 use Rattle.sections.specs.declared.transmitter.Sending.the-variants.{Idle, Element, Stop}
 use Rattle.sections.specs.declared.transmitter.Transmitter.{Transmitter}
-use Rattle.sections.specs.Transmit.{send, next-element, countdown, word-of}
+use Rattle.sections.specs.Transmit.{send, sent, begun, idle-rules, next-element, countdown, word-of}
 use Rattle.laws.specs.Laws.{each-for, parity-level, Transmitter-sends-its-character}
-use Rattle.laws.specs.Runs.{levels, Permits}
-
--- n internal clocks
-abbrev internal : ℕ → InternalCount
-internal n = record { 0 = n }
+use Rattle.laws.specs.Runs.{levels, transmitter-after, sends, Sending-at}
 
 abbrev tx : Sending → Bool → Bool → ℕ → Transmitter
 tx s level xbre buffer = record { state = s; xout = level; xbre = xbre; buffer = buffer }
@@ -39,52 +35,64 @@ stop-some One = omega arith
 stop-some OneAndHalf = omega arith
 stop-some Two = omega arith
 
-module _ (control rate : ℕ) (x : Bool) (b : ℕ) where
+module _ (rate : ℕ) (x : Bool) (b : ℕ) where
+  -- from a state on, these levels stand on the line, and then the transmitter is this one
+  Goes : List Sending-at → Transmitter → List Bool → Transmitter → Type 0
+  Goes ps t vs u = (levels rate ps t ≡ vs) × (transmitter-after rate ps t ≡ u)
+
   -- an element stands for its countdown, and then the next one begins
-  holds : (m w c : ℕ) (s : StopLength) (v : Bool) (ps : List Permits) → 0 < m → m ≤ length ps → levels control rate ps (tx (Element (internal m) w c s) v x b) ≡ replicate m v ++ levels control rate (drop m ps) (next-element rate w c s (tx Idle v x b))
-  unfolding levels send
+  holds : (m w c : ℕ) (s : StopLength) (v : Bool) (ps : List Sending-at) → 0 < m → m ≤ length ps → Goes ps (tx (Element (internal m) w c s) v x b) (replicate m v ++ levels rate (drop m ps) (next-element rate w c s (tx Idle v x b))) (transmitter-after rate (drop m ps) (next-element rate w c s (tx Idle v x b)))
+  unfolding Goes levels transmitter-after send
   holds zero w c s v ps some h = absurd (omega arith)
   holds (suc n) w c s v [] some h = absurd (omega arith)
-  holds (suc zero) w c s v (p ∷ ps) some h = refl
+  holds (suc zero) w c s v (p ∷ ps) some h = (refl, refl)
   holds (suc (suc n)) w c s v (p ∷ ps) some h =
       let on : leb (suc (suc n)) 1 ≡ false = lt-leb (suc (suc n)) 1 (omega arith) in
       let less : suc (suc n) - 1 ≡ suc n = omega arith in
-      rw (on, less) (ap (λ l. v ∷ l) (holds (suc n) w c s v ps (omega arith) (omega arith)))
+      let rest = holds (suc n) w c s v ps (omega arith) (omega arith) in
+      (rw (on, less) (ap (λ l. v ∷ l) (rest .0)), rw (on, less) (rest .1))
 
   -- the stop stands to the end
-  stops : (m : ℕ) (ps : List Permits) → suc (length ps) ≡ m → levels control rate ps (tx (Stop (internal m)) true x b) ≡ replicate m true
-  unfolding levels send
+  stops : (m : ℕ) (ps : List Sending-at) → suc (length ps) ≡ m → Goes ps (tx (Stop (internal m)) true x b) (replicate m true) (tx (Stop (internal 1)) true x b)
+  unfolding Goes levels transmitter-after send
   stops zero ps h = absurd (omega arith)
-  stops (suc zero) [] h = refl
+  stops (suc zero) [] h = (refl, refl)
   stops (suc zero) (p ∷ ps) h = absurd (omega arith)
   stops (suc (suc n)) [] h = absurd (omega arith)
   stops (suc (suc n)) (p ∷ ps) h =
       let on : leb (suc (suc n)) 1 ≡ false = lt-leb (suc (suc n)) 1 (omega arith) in
       let less : suc (suc n) - 1 ≡ suc n = omega arith in
-      rw (on, less) (ap (λ l. true ∷ l) (stops (suc n) ps (omega arith)))
+      let rest = stops (suc n) ps (omega arith) in
+      (rw (on, less) (ap (λ l. true ∷ l) (rest .0)), rw (on, less) (rest .1))
 
   -- the element at hand, c bits of a word, and the stop
-  elements : (c w : ℕ) (s : StopLength) (v : Bool) (ps : List Permits) → suc (length ps) ≡ half-count rate * 2 * suc c + half-count rate * half-bits s → levels control rate ps (tx (Element (countdown rate 2) w c s) v x b) ≡ each-for (half-count rate * 2) (v ∷ bits c w) ++ replicate (half-count rate * half-bits s) true
-  unfolding each-for bits
+  elements : (c w : ℕ) (s : StopLength) (v : Bool) (ps : List Sending-at) → suc (length ps) ≡ half-count rate * 2 * suc c + half-count rate * half-bits s → Goes ps (tx (Element (countdown rate 2) w c s) v x b) (each-for (half-count rate * 2) (v ∷ bits c w) ++ replicate (half-count rate * half-bits s) true) (tx (Stop (internal 1)) true x b)
+  unfolding Goes each-for bits
   elements zero w s v ps h =
       let bit = half-count rate * 2 in
       let some : 0 < bit = omega (arith, half-count-some rate) in
       let stop : 0 < half-count rate * half-bits s = mul-le 1 1 (half-count rate) (half-bits s) (half-count-some rate) (stop-some s) in
-      let rest : suc (length (drop bit ps)) ≡ half-count rate * half-bits s = omega (arith, length-drop bit ps) in
-      holds bit w 0 s v ps some (omega arith)
-      ∙ ap (λ l. replicate bit v ++ l) (stops (half-count rate * half-bits s) (drop bit ps) rest)
-      ∙ sym (append-assoc (replicate bit v) [] (replicate (half-count rate * half-bits s) true))
+      let left : suc (length (drop bit ps)) ≡ half-count rate * half-bits s = omega (arith, length-drop bit ps) in
+      let first = holds bit w 0 s v ps some (omega arith) in
+      let rest = stops (half-count rate * half-bits s) (drop bit ps) left in (
+        first .0 ∙ ap (λ l. replicate bit v ++ l) (rest .0) ∙ sym (append-assoc (replicate bit v) [] (replicate (half-count rate * half-bits s) true)),
+        first .1 ∙ rest .1,
+      )
   elements (suc c) w s v ps h =
       let bit = half-count rate * 2 in
       let some : 0 < bit = omega (arith, half-count-some rate) in
       let more : bit * suc (suc c) ≡ bit * suc c + bit = mul-suc bit (suc c) in
       let stop : 0 < half-count rate * half-bits s = mul-le 1 1 (half-count rate) (half-bits s) (half-count-some rate) (stop-some s) in
-      let rest : suc (length (drop bit ps)) ≡ bit * suc c + half-count rate * half-bits s = omega (arith, length-drop bit ps) in
+      let left : suc (length (drop bit ps)) ≡ bit * suc c + half-count rate * half-bits s = omega (arith, length-drop bit ps) in
       let less : suc c - 1 ≡ c = omega arith in
       let more-bits : eqb (suc c) 0 ≡ false = ne-eqb (suc c) 0 (λ z. omega arith) in
-      holds bit w (suc c) s v ps some (omega arith)
-      ∙ rw (less, more-bits) (ap (λ l. replicate bit v ++ l) (elements c (w / 2) s (eqb (w % 2) 1) (drop bit ps) rest))
-      ∙ sym (append-assoc (replicate bit v) (each-for bit (eqb (w % 2) 1 ∷ bits c (w / 2))) (replicate (half-count rate * half-bits s) true))
+      let first = holds bit w (suc c) s v ps some (omega arith) in
+      let rest = elements c (w / 2) s (eqb (w % 2) 1) (drop bit ps) left in (
+        first .0
+            ∙ rw (less, more-bits) (ap (λ l. replicate bit v ++ l) (rest .0))
+            ∙ sym (append-assoc (replicate bit v) (each-for bit (eqb (w % 2) 1 ∷ bits c (w / 2))) (replicate (half-count rate * half-bits s) true)),
+        first .1 ∙ rw (less, more-bits) (rest .1),
+      )
 
 no-parity : (f : Format) (c : ℕ) → f .parity ≡ Disabled → parity-bit f c ≡ false
 unfolding parity-bit
@@ -104,7 +112,29 @@ word-bits f c = by (f .parity) refl
     by Even e = with-parity
     by Odd e = with-parity
 
-pub sends : Transmitter-sends-its-character
-sends control rate t ps h =
-    elements control rate true (t .buffer) (samples (control-of control .format)) (word-of (control-of control .format) (t .buffer)) (control-of control .stop) false ps h
-    ∙ ap (λ bs. each-for (half-count rate * 2) (false ∷ bs) ++ replicate (half-count rate * half-bits (control-of control .stop)) true) (word-bits (control-of control .format) (t .buffer))
+-- a full transmitter that is idle and may go begins
+begins : (control rate : ℕ) (brkon : Bool) (t : Transmitter) → t .state ≡ Idle → t .xout ≡ true → t .xbre ≡ false → send control rate brkon true t ≡ begun (control-of control) rate t
+unfolding send
+begins control rate brkon t idle mark full = by brkon
+  where
+    by : (brk : Bool) → sent (t .state) control rate brk true t ≡ begun (control-of control) rate t
+    by true = rw (idle, full, mark)
+    by false = rw (idle, mark, full)
+
+-- a stop that runs out leaves the idle rules to the clock
+ends : (rate : ℕ) (x : Bool) (b : ℕ) (p : Sending-at) → sends rate p (tx (Stop (internal 1)) true x b) ≡ idle-rules (p .control) rate (p .brkon) (p .go) (tx (Stop (internal 1)) true x b)
+unfolding send
+ends rate x b p = refl
+
+pub character-sent : Transmitter-sends-its-character
+unfolding Goes
+character-sent control rate brkon t ps idle mark full h =
+    let e = begins control rate brkon t idle mark full in
+    let f = control-of control .format in
+    let stop = control-of control .stop in
+    let g = elements rate true (t .buffer) (samples f) (word-of f (t .buffer)) stop false ps h in
+    let last = ap (transmitter-after rate ps) e ∙ g .1 in (
+      ap (λ (u : Transmitter). u .xbre) e,
+      ap (levels rate ps) e ∙ g .0 ∙ ap (λ bs. each-for (half-count rate * 2) (false ∷ bs) ++ replicate (half-count rate * half-bits stop) true) (word-bits f (t .buffer)),
+      λ p. ap (sends rate p) last ∙ ends rate true (t .buffer) p ∙ sym (ap (idle-rules (p .control) rate (p .brkon) (p .go)) last),
+    )

@@ -10,7 +10,7 @@ use Rattle.timing.specs.Registers.{width, half-bits, control-of, half-count}
 use Rattle.timing.specs.Ones.{parity-bit}
 use Rattle.timing.specs.Calls.{deadline-of}
 use Rattle.sections.specs.Time.{timer-at}
-use Rattle.laws.specs.Runs.{timer-after}
+use Rattle.laws.specs.Runs.{timer-after, filled}
 
 -- the half-bit counts of four rates
 abbrev pub Half-bit-rows : Type 0
@@ -45,5 +45,9 @@ Elapses-after interval tstmd n =
 abbrev pub Timer-rows : Type 0
 Timer-rows = Elapses-after 25 false 1599 × Elapses-after 25 true 49
 
+-- eleven bits fill a rate register, whatever it held
+abbrev pub Register-rows : Type 0
+Register-rows = (filled 11 0 1592 0 ≡ 1592) × (filled 11 0 417 2047 ≡ 417) × (filled 11 0 1232 417 ≡ 1232)
+
 abbrev pub Rows : Type 0
-Rows = Half-bit-rows × Control-rows × Parity-rows × Deadline-rows × Timer-rows
+Rows = Half-bit-rows × Control-rows × Parity-rows × Deadline-rows × Timer-rows × Register-rows

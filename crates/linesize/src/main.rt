@@ -6,6 +6,7 @@ use std::io::BufReader;
 
 mod report;
 mod request;
+mod words;
 
 use report::print_refusal;
 use report::print_sizes;

@@ -1,16 +1,16 @@
 // What is printed for one line of input.
 use crate::request::Request;
 use crate::request::read_nominal;
+use crate::words::InShort;
+use crate::words::InShortDisplay;
+use crate::words::InWords;
+use crate::words::InWordsDisplay;
 use faults::Fault;
 use faults::FaultDisplay;
 use sizing::figures::Hundredths;
 use sizing::figures::HundredthsDisplay;
 use sizing::figures::SystemClock;
 use sizing::line::Line;
-use sizing::words::InShort;
-use sizing::words::InShortDisplay;
-use sizing::words::InWords;
-use sizing::words::InWordsDisplay;
 use std::alloc::AllocError;
 use std::alloc::Global;
 use std::io;

@@ -6,6 +6,7 @@ use Rattle.timing.specs.declared.counts.InternalCount.{InternalCount}
 use Rattle.timing.specs.declared.registers.Control.{Control}
 use Rattle.timing.specs.declared.registers.Format.{Format}
 use Rattle.timing.specs.declared.registers.StopLength.{StopLength}
+use Rattle.timing.specs.Counts.{internal}
 use Rattle.timing.specs.Registers.{width, samples, half-bits, control-of, half-count}
 use Rattle.timing.specs.Ones.{parity-bit}
 use Rattle.sections.specs.Bits.{bit-written}
@@ -15,11 +16,11 @@ use Rattle.sections.specs.declared.transmitter.Transmitter.{Transmitter}
 
 -- a countdown of n half-bits at a rate register
 abbrev pub countdown : ℕ → ℕ → InternalCount
-countdown rate n = record { 0 = half-count rate * n }
+countdown rate n = internal (half-count rate * n)
 
 -- one internal clock less
 abbrev pub lowered : InternalCount → InternalCount
-lowered left = record { 0 = left .0 - 1 }
+lowered left = internal (left .0 - 1)
 
 -- a countdown that is lowered now comes to 0
 abbrev pub runs-out : InternalCount → Bool

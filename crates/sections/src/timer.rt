@@ -2,11 +2,12 @@
 ghost use mathlib.Core.Path.{_≡_};
 ghost use mathlib.Core.Bool.{true};
 ghost use Rattle.sections.specs.Time.{ticked, counted, tick-of, timer-loaded, timer-at, acknowledged, sound-timer};
+use timing::counts::InternalCount;
 
 /// The prescaler, the count in force, TIMELP (it has elapsed) and TIMERR (it elapsed again before that was seen).
 #[derive(Clone, Copy)]
 pub struct Timer {
-    pub prescaler: u8,
+    pub prescaler: InternalCount,
     pub count: u8,
     pub timelp: bool,
     pub timerr: bool,
@@ -19,7 +20,7 @@ impl Timer {
         ensures sound { λ r. ⌜ sound-timer r ≡ true ⌝ }
     {
         Timer {
-            prescaler: 0,
+            prescaler: InternalCount(0),
             count: interval,
             timelp: false,
             timerr: false,
@@ -63,9 +64,9 @@ impl Timer {
         ensures sound { λ _. ⌜ sound-timer (now (self .exit)) ≡ true ⌝ }
     {
         let limit = if tstmd { 2 } else { 64 };
-        self.prescaler += 1;
-        if self.prescaler >= limit {
-            self.prescaler = 0;
+        self.prescaler = InternalCount(self.prescaler.0 + 1);
+        if self.prescaler.0 >= limit {
+            self.prescaler = InternalCount(0);
             self.count_down(interval);
         }
     }

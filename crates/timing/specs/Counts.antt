@@ -10,6 +10,12 @@ abbrev pub q : Divider → ℕ
 q By3 = 3
 q By4 = 4
 
+abbrev pub phi : ℕ → PhiCount
+phi n = record { 0 = n }
+
+abbrev pub internal : ℕ → InternalCount
+internal n = record { 0 = n }
+
 -- the φ clocks of a number of internal clocks
 abbrev pub in-phi : Divider → InternalCount → PhiCount
-in-phi d n = record { 0 = q d * n .0 }
+in-phi d n = phi (q d * n .0)

@@ -1,9 +1,11 @@
 // What a host may ask of one chip.
 ghost use mathlib.Core.Path.{_≡_};
 ghost use mathlib.Core.Bool.{true, cond};
-ghost use Prim.Native.Nat.{_+_, _^_, _<_, _≤_};
+ghost use Prim.Native.Nat.{_+_, _%_, _^_, _<_, _≤_};
+ghost use lib.Dec.{eqb};
 ghost use Rattle.acc.specs.Sound.{sound, parts-sound};
 ghost use Rattle.acc.specs.Inputs.{bits-read};
+ghost use Rattle.acc.specs.Outputs.{write-of};
 ghost use Rattle.acc.specs.Calls.{opened-chip, dsr-set, pins-of, recovering, transfer, bits-written, put-answer, put-checked, put-of, put-done, get-answer, get-checked, load-answer, load-checked, load-of, load-done, take-answer, take-checked, take-of, take-done};
 use super::Acc;
 use super::Enables;
@@ -17,6 +19,7 @@ use faults::Cause;
 use sections::receiver::Receiver;
 use sections::timer::Timer;
 use sections::transmitter::Transmitter;
+use timing::counts::PhiCount;
 
 // A transfer has at most 16 bits.
 fn transfer(count: u8) -> u8
@@ -81,8 +84,8 @@ impl Acc {
             transmitter: Transmitter::empty(),
             receiver: Receiver::idle(),
             timer: Timer::at(registers.interval),
-            divider: 0,
-            recovery: 0,
+            divider: PhiCount(0),
+            recovery: PhiCount(0),
         }
     }
 
@@ -118,7 +121,7 @@ impl Acc {
     pub fn is_recovering(&self) -> bool
         ensures { λ r. ⌜ r ≡ recovering (now (self .entry)) ⌝ }
     {
-        self.recovery > 0
+        self.recovery.0 > 0
     }
 
     /// Loads a character into the transmit buffer. Refused by causes 11, 12 and 13.
@@ -204,6 +207,15 @@ impl Acc {
         Ok(())
     }
 
+    // The lowest bit of a number.
+    fn write_lowest(&mut self, address: u16, bits: u16)
+        requires sound { ⌜ sound (now self) ≡ true ⌝ }
+        ensures step { λ _. ⌜ now (self .exit) ≡ write-of address (eqb (bits % 2) 1) (now (self .entry)) ⌝ }
+        ensures sound { λ _. ⌜ sound (now (self .exit)) ≡ true ⌝ }
+    {
+        self.write(address, bits % 2 == 1);
+    }
+
     fn write_bits(&mut self, address: u8, count: u8, value: u16)
         requires sound { ⌜ sound (now self) ≡ true ⌝ }
         ensures step { λ _. ⌜ now (self .exit) ≡ bits-written count address value (now (self .entry)) ⌝ }
@@ -211,7 +223,7 @@ impl Acc {
     {
         let mut rest = value;
         for i in 0..count {
-            self.write(address as u16 + i as u16, rest % 2 == 1);
+            self.write_lowest(address as u16 + i as u16, rest);
             rest /= 2;
         }
     }

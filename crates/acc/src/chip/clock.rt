@@ -4,6 +4,7 @@ ghost use mathlib.Core.Bool.{true};
 ghost use Rattle.acc.specs.Sound.{sound, parts-sound};
 ghost use Rattle.acc.specs.Clock.{clock-of, clocked, serve-of, served, begun-clock, fires, divided, compared, listened, transmitted, rts-ended};
 use super::Acc;
+use timing::counts::PhiCount;
 use timing::registers::Control;
 
 impl Acc {
@@ -40,8 +41,8 @@ impl Acc {
             self.lines.dsr = self.lines.dsr_setting;
             self.lines.rin = rin;
         }
-        if self.recovery > 0 {
-            self.recovery -= 1;
+        if self.recovery.0 > 0 {
+            self.recovery = PhiCount(self.recovery.0 - 1);
         }
     }
 
@@ -53,11 +54,11 @@ impl Acc {
         ensures sound { λ _. ⌜ parts-sound (now (self .exit)) ≡ true ⌝ }
     {
         let q = Control::of(self.registers.control).divider.q();
-        if self.divider as u32 + 1 >= q {
-            self.divider = 0;
+        if self.divider.0 + 1 >= q as u64 {
+            self.divider = PhiCount(0);
             return true;
         }
-        self.divider += 1;
+        self.divider = PhiCount(self.divider.0 + 1);
         false
     }
 

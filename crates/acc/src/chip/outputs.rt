@@ -11,6 +11,7 @@ use super::Modes;
 use sections::bits::byte_with_bit;
 use sections::bits::rate_with_bit;
 use sections::timer::Timer;
+use timing::counts::PhiCount;
 
 impl Acc {
     /// A write to one output bit.
@@ -172,7 +173,7 @@ impl Acc {
         self.transmitter.reset();
         self.receiver.reset();
         self.timer = Timer::at(0);
-        self.divider = 0;
-        self.recovery = 11;
+        self.divider = PhiCount(0);
+        self.recovery = PhiCount(11);
     }
 }

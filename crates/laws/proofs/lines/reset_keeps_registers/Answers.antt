@@ -4,4 +4,4 @@ use Rattle.laws.proofs.lines.reset_keeps_registers.Needs as need
 
 pub returns : need.returns
 unfolding write-of
-returns c v e = (refl, refl, refl, refl, refl)
+returns c v e = (refl, refl, refl, refl, refl, refl, refl, refl, refl)

@@ -1,5 +1,5 @@
-use Rattle.laws.proofs.TransmitterLaw.{sends}
+use Rattle.laws.proofs.TransmitterLaw.{character-sent}
 use Rattle.laws.proofs.lines.transmitter_sends_its_character.Needs as need
 
 pub returns : need.returns
-returns c = sends
+returns c = character-sent

@@ -1,7 +1,7 @@
 // A character's format in words and in the short form of the field, as 7E1.
 ghost use mathlib.Core.Path.{_≡_};
 ghost use Rattle.std.specs.declared.option.Option.the-variants.{Some};
-ghost use Rattle.sizing.specs.Words.{parity-text, stop-text, format-text, parity-letter, stop-figure, format-short};
+ghost use Rattle.linesize.specs.Words.{parity-text, stop-text, format-text, parity-letter, stop-figure, format-short};
 use std::fmt;
 use timing::registers::Control;
 use timing::registers::Parity;
@@ -29,9 +29,9 @@ fn stop_text(stop: StopLength) -> &'static str
 
 /// A format in words, as `7 bits, even parity, 1 stop bit`.
 #[derive(Clone, Copy)]
-pub struct InWords(pub Control);
+pub(crate) struct InWords(pub(crate) Control);
 
-pub impl fmt::Display for InWords as InWordsDisplay {
+pub(crate) impl fmt::Display for InWords as InWordsDisplay {
     ghost shown = { λ x. Some (format-text (x .0)) };
 
     fn fmt<W: fmt::Write>(&self, f: &mut fmt::Formatter<W>) -> fmt::Result {
@@ -64,9 +64,9 @@ fn stop_figure(stop: StopLength) -> &'static str
 
 /// A format in its short form, as `7E1`: data bits, then N, E or O for the parity, then the stop bits.
 #[derive(Clone, Copy)]
-pub struct InShort(pub Control);
+pub(crate) struct InShort(pub(crate) Control);
 
-pub impl fmt::Display for InShort as InShortDisplay {
+pub(crate) impl fmt::Display for InShort as InShortDisplay {
     ghost shown = { λ x. Some (format-short (x .0)) };
 
     fn fmt<W: fmt::Write>(&self, f: &mut fmt::Formatter<W>) -> fmt::Result {

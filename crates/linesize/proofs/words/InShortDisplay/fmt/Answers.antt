@@ -1,6 +1,6 @@
 use Rattle.std.proofs.Writes.{put-is}
-use Rattle.sizing.specs.Words.{in-short}
-use Rattle.sizing.proofs.words.InShortDisplay.fmt.Needs as need
+use Rattle.linesize.specs.Words.{in-short}
+use Rattle.linesize.proofs.words.InShortDisplay.fmt.Needs as need
 
 pub returns : need.returns
 returns g c plain ok =
