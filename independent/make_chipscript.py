@@ -5,7 +5,7 @@
 
 crates/chipscript/stdin was made by
 
-    python3 independent/make_chipscript.py 9902 3000 > crates/chipscript/stdin
+    python3 independent/make_chipscript.py 15 3000 > crates/chipscript/stdin
 
 and crates/chipscript/stdout is what independent/chipscript.c prints for it.
 
@@ -646,7 +646,7 @@ def whole_character(s):
 
 
 def format_changes(s):
-    """The control register changes while a character is sent and one received, mostly with parity. Both keep their format."""
+    """The control register changes while a character is sent and often one received, mostly with parity. Both keep their format."""
     working(s)
     same_rates(s)
     s.run(s.transmit_character() + 2 * s.chip.q, 1)
@@ -655,6 +655,8 @@ def format_changes(s):
     s.load(s.character())
     s.run(s.chip.q)
     levels = levels_of(s, s.character())
+    if s.chance.happens(35):
+        levels = [1] * len(levels)
     at = s.chance.between(1, len(levels) - 1)
     for i, level in enumerate(levels):
         if i == at:
@@ -783,8 +785,6 @@ def upset(s):
         s.cts = s.bit()
         give(s, s.character())
         s.run(2 * s.receive_half() * s.chance.between(1, 4), 0)
-    if s.chance.happens(70):
-        turn_line(s)
 
 
 def turn_line(s):
@@ -799,6 +799,8 @@ def turn_line(s):
 def reset(s):
     if s.chance.happens(60):
         upset(s)
+    if s.chance.happens(60):
+        turn_line(s)
     if s.chance.happens(70):
         s.write(31, s.bit())
     else:

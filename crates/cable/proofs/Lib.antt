@@ -1,0 +1,3 @@
+pub mod Rotation
+pub mod Striking
+pub mod HandedOut

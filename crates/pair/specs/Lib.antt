@@ -1,0 +1,5 @@
+pub mod Bench
+pub mod Calls
+pub mod Moment
+pub mod Rows
+pub mod Runs
