@@ -1,4 +1,6 @@
 // Two chips with a cable between them, and the calls of a host. The calls stand in the modules below.
+#![tactic(auto)]
+
 ghost use Rattle.std.specs.Prelude.{◌≡◌, ◌≤◌, true};
 ghost use Rattle.acc.specs.Sound.{sound};
 ghost use Rattle.pair.specs.Bench.{last_clock};

@@ -1,4 +1,6 @@
 // Cables between two boards, behind one interface.
+#![tactic(auto)]
+
 pub mod delaying;
 pub mod direction;
 pub mod disturbed;

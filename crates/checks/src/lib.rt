@@ -1,4 +1,6 @@
 // Examples that are run: the compiled code against numbers that were worked out by hand.
+#![tactic(auto)]
+
 #[cfg(test)]
 mod benches;
 #[cfg(test)]

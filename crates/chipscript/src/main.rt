@@ -1,4 +1,6 @@
 // Drives one chip from standard input, and shows after each call all that can be seen of it.
+#![tactic(auto)]
+
 use std::io;
 use std::io::{BufRead, BufReader};
 

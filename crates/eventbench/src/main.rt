@@ -1,4 +1,6 @@
 // Drives benches over all three cables from standard input, call by call, with events in their moments.
+#![tactic(auto)]
+
 use std::io::{BufRead, BufReader};
 
 mod answers;

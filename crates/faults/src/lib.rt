@@ -1,4 +1,6 @@
 // Why a call is refused, and where.
+#![tactic(auto)]
+
 ghost use Rattle.std.specs.Prelude.{◌≡◌, Some};
 ghost use Rattle.faults.specs.Faults.{end_number, cause_number, cause_text, place_end, end_text, unplaced, sentence};
 

@@ -1,5 +1,7 @@
 // The calls that a C host makes: plain numbers in, and a plain number out, which is a refusal's cause negated where it is
 // below zero.
+#![tactic(auto)]
+
 ghost use Rattle.std.specs.Prelude.{◌≡◌};
 ghost use Rattle.timing.specs.Calls.{half_bit_answer, deadline_answer};
 ghost use Rattle.host.specs.Numbers.{internal_or_cause, phi_or_cause, negated};

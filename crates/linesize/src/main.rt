@@ -1,4 +1,6 @@
 // Sizes serial lines: reads one line of numbers for each, and prints what the line can carry.
+#![tactic(auto)]
+
 use std::io;
 use std::io::{BufRead, BufReader};
 

@@ -1,4 +1,6 @@
 // One chip in test mode sends itself a label: when each character is stored, its flags, and what INT does.
+#![tactic(auto)]
+
 use faults::Fault;
 use std::io;
 use std::io::{BufRead, BufReader, Write};

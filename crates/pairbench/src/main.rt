@@ -1,4 +1,6 @@
 // Drives a bench over the straight cable from standard input: one line of text in, one line out.
+#![tactic(auto)]
+
 use script::Script;
 use std::io;
 use std::io::{BufRead, BufReader, Write};

@@ -1,4 +1,6 @@
 // A bench over the straight cable that is driven by lines of text.
+#![tactic(auto)]
+
 use bench::Bench;
 use cable::straight::Straight;
 

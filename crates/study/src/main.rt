@@ -1,4 +1,6 @@
 // How close may totes come? Reads cases from standard input, one a line, and prints a table for each.
+#![tactic(auto)]
+
 use std::io;
 use std::io::{BufRead, BufReader};
 

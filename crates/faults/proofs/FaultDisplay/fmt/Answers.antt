@@ -5,5 +5,5 @@ use Rattle.faults.proofs.FaultDisplay.fmt.Goals as goal
 pub returns-clause-writes : goal.returns-clause-writes
 returns-clause-writes g c plain ok =
     has_written_of_eq _ _ _ _ _
-    (λ i. told (c.text-text.ensures i) (c.number-number.ensures i) c.args.self.now.place.index (c.end-text-end.ensures i))
+    (λ i. told (c.text-text.ensures i) (c.number-number.ensures i) c.args.self.now.place.index (c.end_text-end.ensures i))
     (c.write.ensures.writes plain ok)
