@@ -1,6 +1,6 @@
 -- The low bits of a number, and their parity. Assumes nothing.
-use Rattle.std.proofs.Common.{◌≡◌, ℕ, zero, suc, ◌+◌, ◌*◌, ◌/◌, ◌%◌, ◌^◌, ◌≤◌, Bool, true, false, cond, eqb, [], ◌∷◌, ◌++◌, sym, refl, ap, ◌∙◌, pow_suc, add_one, arith}
-use lib.Pow.{mod_pow_add}
+use Rattle.std.proofs.Common.{◌≡◌, ℕ, zero, suc, ◌+◌, ◌*◌, ◌/◌, ◌%◌, ◌^◌, ◌≤◌, Bool, true, false, cond, eqb, [], ◌∷◌, ◌++◌, sym, refl, ap, ◌∙◌, pow-suc, add-one, arith}
+use lib.Pow.{mod-pow-add}
 use Rattle.timing.specs.Ones.{bits, odd_among, differ}
 
 -- no ones in 0
@@ -11,7 +11,7 @@ none_odd (suc k) = none_odd k
 
 -- the low n + 1 bits: the lowest one, and n above it
 halves : (n c : ℕ) → c % 2 ^ suc n ≡ (c / 2 % 2 ^ n) * 2 + c % 2
-halves n c = ap (λ k. c % 2 ^ k) (sym (add_one n)) ∙ mod_pow_add c n 1
+halves n c = ap (λ k. c % 2 ^ k) (sym (add-one n)) ∙ mod-pow-add c n 1
 
 low_bit : (n c : ℕ) → c % 2 ^ suc n % 2 ≡ c % 2
 low_bit n c = rw halves (omega arith)
@@ -41,7 +41,7 @@ bits_low (suc n) c = rw (low_bit, high_bits) (ap (λ bs. eqb (c % 2) 1 ∷ bs) (
 
 -- one bit above the low n
 above : (n c : ℕ) (b : Bool) → c % 2 ^ suc n + cond b (2 ^ suc n) 0 ≡ 2 * (c / 2 % 2 ^ n + cond b (2 ^ n) 0) + c % 2
-above n c true = let h = halves n c in let p = pow_suc 2 n in omega arith
+above n c true = let h = halves n c in let p = pow-suc 2 n in omega arith
 above n c false = let h = halves n c in omega arith
 
 pub bits_above : (n c : ℕ) (b : Bool) → bits (suc n) (c % 2 ^ n + cond b (2 ^ n) 0) ≡ bits n c ++ b ∷ []

@@ -16,5 +16,5 @@ pub returns : goal.returns
 unfolding parity_bit odd_ones
 returns c =
     let f = c.args.format in
-    let odd = c.odd_ones.ensures ∙ ap odd_ones c.data-of.ensures ∙ odd_among_low (width f.length) 8 c.args.character (width_small f.length) in
-    c.parity-for.ensures ∙ ap (parity_by f.parity) odd
+    let odd = c.odd_ones.ensures ∙ ap odd_ones c.data_of.ensures ∙ odd_among_low (width f.length) 8 c.args.character (width_small f.length) in
+    c.parity_for.ensures ∙ ap (parity_by f.parity) odd
