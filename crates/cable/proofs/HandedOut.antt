@@ -1,8 +1,8 @@
 -- What a channel hands out, step by step. Assumes nothing.
 use Rattle.std.proofs.Common.{◌≡◌, ℕ, zero, suc, ◌+◌, ◌-◌, ◌<◌, ◌≤◌, Bool, true, false, cond, eqb, ◌⊎◌, List, [], ◌∷◌, ◌++◌, length, get_or, sym, refl, ap, ◌∙◌, inl, inr, append_assoc, arith}
-use lib.Dec.{eqb_zero_suc, eqb_suc_zero, eqb_suc_suc}
-use Rattle.std.proofs.lemmas.List.{length_push, get_or_append_left, get_or_append_right}
-use Rattle.std.proofs.lemmas.Bool.{cases_lt, eqb_true, eqb_false, ne_eqb, cond_both}
+use lib.Dec.{eqb-zero-suc, eqb-suc-zero, eqb-suc-suc}
+use Rattle.std.proofs.lemmas.List.{length_push, get_or_append_left, get_or-append_right}
+use Rattle.std.proofs.lemmas.Bool.{cases_lt, eqb-true, eqb-false, ne_eqb, cond_both}
 use Rattle.cable.specs.Channels.{Pair, Flip, Channel, invert_at, due, nearer, struck, remaining, front, behind, entered, handed, stepped, LawfulFlips, LawfulChannel}
 use Rattle.cable.specs.Passing.{turned, odd_at, passed, HandsOutWhatEntered}
 
@@ -31,9 +31,9 @@ getD_invert_at : (n : ℕ) (ps : List Pair) (j : ℕ) (d : Pair) → j < length 
 unfolding invert_at
 getD_invert_at n [] j d h = absurd (omega arith)
 getD_invert_at zero (p ∷ ps) zero d h = refl
-getD_invert_at zero (p ∷ ps) (suc j) d h = rw eqb_zero_suc
-getD_invert_at (suc n) (p ∷ ps) zero d h = rw eqb_suc_zero
-getD_invert_at (suc n) (p ∷ ps) (suc j) d h = rw eqb_suc_suc (getD_invert_at n ps j d (omega arith))
+getD_invert_at zero (p ∷ ps) (suc j) d h = rw eqb-zero-suc
+getD_invert_at (suc n) (p ∷ ps) zero d h = rw eqb-suc-zero
+getD_invert_at (suc n) (p ∷ ps) (suc j) d h = rw eqb-suc-suc (getD_invert_at n ps j d (omega arith))
 
 length_struck : (fs : List Flip) (ps : List Pair) → length (struck fs ps) ≡ length ps
 unfolding struck
@@ -59,7 +59,7 @@ struck_pair (f ∷ fs) ps j d h = go (due f) refl (λ qs k. struck_pair fs qs j 
   where
     go : (b : Bool) → due f ≡ b → ((qs : List Pair) → j < length qs → turn (odd_left fs j) (get_or (struck fs qs) j d) ≡ turn (odd_at fs j) (get_or qs j d)) → turn (cond b (odd_left fs j) (turned (eqb f.position j) (odd_left fs j))) (get_or (struck fs (cond b (invert_at f.place ps) ps)) j d) ≡ turn (turned (eqb f.position j) (odd_at fs j)) (get_or ps j d)
     go true e ih =
-        let same : f.position ≡ f.place = eqb_true f.position f.place e in
+        let same : f.position ≡ f.place = eqb-true f.position f.place e in
         let long : j < length (invert_at f.place ps) = omega (arith, length_invert_at f.place ps) in
         let l = getD_invert_at f.place ps j d h in
         let i = ih (invert_at f.place ps) long in
@@ -79,7 +79,7 @@ odd_left_zero n [] h = refl
 odd_left_zero n (f ∷ fs) h =
     let ih = odd_left_zero n fs h.2 in
     cond_both (due f) (odd_left fs 0) (turned (eqb f.position 0) (odd_left fs 0)) (λ x. x ≡ false) (λ _. ih)
-    (λ e. let z : eqb f.position 0 ≡ false = ne_eqb f.position 0 (λ y. eqb_false f.position f.place e (omega (arith, h.1))) in rw z ih)
+    (λ e. let z : eqb f.position 0 ≡ false = ne_eqb f.position 0 (λ y. eqb-false f.position f.place e (omega (arith, h.1))) in rw z ih)
 
 -- the others are one nearer after the step
 odd_left_suc : (n : ℕ) (fs : List Flip) (j : ℕ) → LawfulFlips n fs → odd_left fs (suc j) ≡ odd_at (remaining fs) j
@@ -90,9 +90,9 @@ odd_left_suc n (f ∷ fs) j h = go (due f) refl (odd_left_suc n fs j h.2)
     go : (b : Bool) → due f ≡ b → odd_left fs (suc j) ≡ odd_at (remaining fs) j → cond b (odd_left fs (suc j)) (turned (eqb f.position (suc j)) (odd_left fs (suc j))) ≡ odd_at (cond b (remaining fs) (nearer f ∷ remaining fs)) j
     go true e ih = ih
     go false e ih =
-        let apart : f.position ≡ f.place → ⊥ = eqb_false f.position f.place e in
+        let apart : f.position ≡ f.place → ⊥ = eqb-false f.position f.place e in
         let s : f.position ≡ suc (f.position - 1) = omega (arith, h.1) in
-        let c : eqb f.position (suc j) ≡ eqb (f.position - 1) j = ap (λ x. eqb x (suc j)) s ∙ eqb_suc_suc (f.position - 1) j in
+        let c : eqb f.position (suc j) ≡ eqb (f.position - 1) j = ap (λ x. eqb x (suc j)) s ∙ eqb-suc-suc (f.position - 1) j in
         cc
 
 -- none is due past the back of the list
@@ -102,7 +102,7 @@ odd_left_far n [] j h l = refl
 odd_left_far n (f ∷ fs) j h l =
     let ih = odd_left_far n fs j h.2 l in
     cond_both (due f) (odd_left fs j) (turned (eqb f.position j) (odd_left fs j)) (λ x. x ≡ turned (eqb f.position j) (odd_at fs j))
-    (λ e. let s : f.position ≡ f.place = eqb_true f.position f.place e in
+    (λ e. let s : f.position ≡ f.place = eqb-true f.position f.place e in
     let z : eqb f.position j ≡ false = ne_eqb f.position j (λ y. omega (arith, h.0)) in rw z ih)
     (λ e. ap (turned (eqb f.position j)) ih)
 
@@ -111,7 +111,7 @@ unfolding remaining LawfulFlips
 lawful_remaining n [] h = tt
 lawful_remaining n (f ∷ fs) h =
     cond_both (due f) (remaining fs) (nearer f ∷ remaining fs) (LawfulFlips n) (λ _. lawful_remaining n fs h.2)
-    (λ e. let apart : f.position ≡ f.place → ⊥ = eqb_false f.position f.place e in (omega (arith, h.0), omega (arith, h.1), lawful_remaining n fs h.2))
+    (λ e. let apart : f.position ≡ f.place → ⊥ = eqb-false f.position f.place e in (omega (arith, h.0), omega (arith, h.1), lawful_remaining n fs h.2))
 
 length_behind : (ps : List Pair) (n : ℕ) → length ps ≡ suc n → length (behind ps) ≡ n
 length_behind [] n h = absurd (omega arith)
@@ -178,8 +178,8 @@ module _ (c : Channel) (p : Pair) (law : LawfulChannel c) where
       by (inr h) =
           let far = odd_left_far (length c.waiting) c.flips (suc t) law (omega arith) in
           let n = next in
-          let a = get_or_append_right (behind (entered c p)) ps (length c.waiting) t d left h in
-          let b = get_or_append_right c.waiting (p ∷ ps) (length c.waiting) (suc t) d refl (omega arith) in
+          let a = get_or-append_right (behind (entered c p)) ps (length c.waiting) t d left h in
+          let b = get_or-append_right c.waiting (p ∷ ps) (length c.waiting) (suc t) d refl (omega arith) in
           let k : suc t - length c.waiting ≡ suc (t - length c.waiting) = omega arith in
           let e : get_or (p ∷ ps) (suc t - length c.waiting) d ≡ get_or ps (t - length c.waiting) d = rw k refl in
           cc

@@ -1,12 +1,12 @@
 -- Flips at place 0 for rising step numbers: one step. Assumes nothing.
-use Rattle.std.proofs.Common.{◌≡◌, ℕ, ◌+◌, ◌-◌, ◌<◌, ◌≤◌, Bool, true, false, cond, ◌&&◌, eqb, leb, List, [], ◌∷◌, length, get_or, drop, Some, None, sym, refl, ap, ◌∙◌, inl, inr, not_suc_le_zero, arith}
-use Rattle.std.proofs.lemmas.Bool.{and_parts, leb_true, ne_eqb, cases_eq, eq_eqb}
+use Rattle.std.proofs.Common.{◌≡◌, ℕ, ◌+◌, ◌-◌, ◌<◌, ◌≤◌, Bool, true, false, cond, ◌&&◌, eqb, leb, List, [], ◌∷◌, length, get_or, drop, Some, None, sym, refl, ap, ◌∙◌, inl, inr, not-suc-le-zero, arith}
+use Rattle.std.proofs.lemmas.Bool.{and_parts, leb-true, ne_eqb, cases_eq, eq-eqb}
 use Rattle.cable.specs.Channels.{Pair, Flip, inverted, invert_at, struck, remaining, front, behind, handed, stepped}
 use Rattle.cable.specs.Rising.{rising}
 use Rattle.cable.specs.Disturb.{flips_after, flipped}
 
 first_low : (m p : ℕ) (ps : List ℕ) → rising m (p ∷ ps) ≡ true → m ≤ p
-first_low m p ps r = leb_true m p (and_parts (leb m p) (rising (p + 1) ps) r).0
+first_low m p ps r = leb-true m p (and_parts (leb m p) (rising (p + 1) ps) r).0
 
 rest_up : (m p : ℕ) (ps : List ℕ) → rising m (p ∷ ps) ≡ true → rising (p + 1) ps ≡ true
 rest_up m p ps r = (and_parts (leb m p) (rising (p + 1) ps) r).1
@@ -38,7 +38,7 @@ nearer_all e m (p ∷ ps) l r =
 due_now : (e p : ℕ) → e ≤ p → eqb (p - e) 0 ≡ eqb p e
 due_now e p h =
     elim (cases_eq p e) [
-      | inl y ↦ eq_eqb (p - e) 0 (omega arith) ∙ sym (eq_eqb p e y)
+      | inl y ↦ eq-eqb (p - e) 0 (omega arith) ∙ sym (eq-eqb p e y)
       | inr n ↦ ne_eqb (p - e) 0 (λ z. n (omega arith)) ∙ sym (ne_eqb p e n)
     ]
 
@@ -48,7 +48,7 @@ front_cond false x y d = refl
 
 pub strike_hands : (e : ℕ) (ps : List ℕ) (x : Pair) → 0 < length ps → rising e ps ≡ true → cond (eqb (get_or ps 0 0) e) (inverted x) x ≡ handed (flipped e ps) x
 unfolding handed struck invert_at
-strike_hands e [] x h r = absurd (not_suc_le_zero h)
+strike_hands e [] x h r = absurd (not-suc-le-zero h)
 strike_hands e (p ∷ ps) x h r =
     let low = first_low e p ps r in
     sym (ap (front x) (quiet e (p + 1) ps (cond (eqb (p - e) 0) (inverted x ∷ []) (x ∷ [])) (omega arith) (rest_up e p ps r))
@@ -65,7 +65,7 @@ none_behind false x y = refl
 
 pub strike_leaves : (e : ℕ) (ps : List ℕ) (x : Pair) → 0 < length ps → rising e ps ≡ true → flipped (e + 1) (cond (eqb (get_or ps 0 0) e) (drop 1 ps) ps) ≡ stepped (flipped e ps) x
 unfolding stepped struck remaining invert_at
-strike_leaves e [] x h r = absurd (not_suc_le_zero h)
+strike_leaves e [] x h r = absurd (not-suc-le-zero h)
 strike_leaves e (p ∷ ps) x h r =
     let low = first_low e p ps r in
     let up = rest_up e p ps r in

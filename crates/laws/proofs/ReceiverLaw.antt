@@ -1,5 +1,5 @@
 -- A receiver after a stop sample of space, while the line stays low. Assumes nothing.
-use Rattle.std.proofs.Common.{◌≡◌, ℕ, Bool, true, false, cond, ltb, List, [], ◌∷◌, le_refl, le_ltb}
+use Rattle.std.proofs.Common.{◌≡◌, ℕ, Bool, true, false, cond, ltb, List, [], ◌∷◌, le_refl, le-ltb}
 use Rattle.timing.specs.declared.counts.InternalCount.{InternalCount}
 use Rattle.timing.specs.declared.registers.Format.{Format}
 use Rattle.timing.specs.Registers.{samples}
@@ -13,7 +13,7 @@ use Rattle.laws.specs.Runs.{Hearing, low_after}
 pub stores_space : (control rate : ℕ) (r : Receiver) (f : Format) (left : InternalCount) (held : ℕ) → r.state ≡ Character f left held (samples f) → runs_out left ≡ true → listen control rate false r ≡ stored f held false (in_state r.state false r)
 unfolding listen
 stores_space control rate r f left held state out =
-    let full : ltb (samples f) (samples f) ≡ false = le_ltb (samples f) (samples f) (le_refl (samples f)) in
+    let full : ltb (samples f) (samples f) ≡ false = le-ltb (samples f) (samples f) (le_refl (samples f)) in
     rw (state, out, full)
 
 -- idle having seen space, it stays so

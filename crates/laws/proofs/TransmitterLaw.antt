@@ -1,7 +1,7 @@
 -- What a transmitter puts on the line from the start of a character on. Assumes nothing.
-use Rattle.std.proofs.Common.{◌≡◌, ℕ, zero, suc, ◌+◌, ◌-◌, ◌*◌, ◌/◌, ◌%◌, ◌<◌, ◌≤◌, Bool, true, false, eqb, leb, List, [], ◌∷◌, ◌++◌, length, drop, replicate, sym, refl, ap, ◌∙◌, append_assoc, append_nil, add_zero, mul_suc, add_one, arith, length_drop, ne_eqb}
-use borrow.Author.Tests.{lt_leb}
-use Rattle.std.proofs.lemmas.Nat.{mul_le}
+use Rattle.std.proofs.Common.{◌≡◌, ℕ, zero, suc, ◌+◌, ◌-◌, ◌*◌, ◌/◌, ◌%◌, ◌<◌, ◌≤◌, Bool, true, false, eqb, leb, List, [], ◌∷◌, ◌++◌, length, drop, replicate, sym, refl, ap, ◌∙◌, append_assoc, append-nil, add-zero, mul-suc, add-one, arith, length-drop, ne_eqb}
+use borrow.Author.Tests.{lt-leb}
+use Rattle.std.proofs.lemmas.Nat.{mul-le}
 use Rattle.timing.proofs.Bits.{bits_low, bits_above}
 use Rattle.timing.proofs.HalfBits.{half_count_some}
 use Rattle.timing.specs.declared.registers.Format.{Format}
@@ -39,7 +39,7 @@ module _ (rate : ℕ) (x : Bool) (b : ℕ) where
   holds (suc n) w c s v [] some h = absurd (omega arith)
   holds (suc zero) w c s v (p ∷ ps) some h = (refl, refl)
   holds (suc (suc n)) w c s v (p ∷ ps) some h =
-      let on : leb (suc (suc n)) 1 ≡ false = lt_leb (suc (suc n)) 1 (omega arith) in
+      let on : leb (suc (suc n)) 1 ≡ false = lt-leb (suc (suc n)) 1 (omega arith) in
       let less : suc (suc n) - 1 ≡ suc n = omega arith in
       let rest = holds (suc n) w c s v ps (omega arith) (omega arith) in
       (rw (on, less) (ap (λ l. v ∷ l) rest.0), rw (on, less) rest.1)
@@ -52,7 +52,7 @@ module _ (rate : ℕ) (x : Bool) (b : ℕ) where
   stops (suc zero) (p ∷ ps) h = absurd (omega arith)
   stops (suc (suc n)) [] h = absurd (omega arith)
   stops (suc (suc n)) (p ∷ ps) h =
-      let on : leb (suc (suc n)) 1 ≡ false = lt_leb (suc (suc n)) 1 (omega arith) in
+      let on : leb (suc (suc n)) 1 ≡ false = lt-leb (suc (suc n)) 1 (omega arith) in
       let less : suc (suc n) - 1 ≡ suc n = omega arith in
       let rest = stops (suc n) ps (omega arith) in
       (rw (on, less) (ap (λ l. true ∷ l) rest.0), rw (on, less) rest.1)
@@ -63,8 +63,8 @@ module _ (rate : ℕ) (x : Bool) (b : ℕ) where
   elements zero w s v ps h =
       let bit = half_count rate * 2 in
       let some : 0 < bit = omega (arith, half_count_some rate) in
-      let stop : 0 < half_count rate * half_bits s = mul_le 1 1 (half_count rate) (half_bits s) (half_count_some rate) (stop_some s) in
-      let left : suc (length (drop bit ps)) ≡ half_count rate * half_bits s = omega (arith, length_drop bit ps) in
+      let stop : 0 < half_count rate * half_bits s = mul-le 1 1 (half_count rate) (half_bits s) (half_count_some rate) (stop_some s) in
+      let left : suc (length (drop bit ps)) ≡ half_count rate * half_bits s = omega (arith, length-drop bit ps) in
       let first = holds bit w 0 s v ps some (omega arith) in
       let rest = stops (half_count rate * half_bits s) (drop bit ps) left in (
         first.0 ∙ ap (λ l. replicate bit v ++ l) rest.0 ∙ sym (append_assoc (replicate bit v) [] (replicate (half_count rate * half_bits s) true)),
@@ -73,9 +73,9 @@ module _ (rate : ℕ) (x : Bool) (b : ℕ) where
   elements (suc c) w s v ps h =
       let bit = half_count rate * 2 in
       let some : 0 < bit = omega (arith, half_count_some rate) in
-      let more : bit * suc (suc c) ≡ bit * suc c + bit = mul_suc bit (suc c) in
-      let stop : 0 < half_count rate * half_bits s = mul_le 1 1 (half_count rate) (half_bits s) (half_count_some rate) (stop_some s) in
-      let left : suc (length (drop bit ps)) ≡ bit * suc c + half_count rate * half_bits s = omega (arith, length_drop bit ps) in
+      let more : bit * suc (suc c) ≡ bit * suc c + bit = mul-suc bit (suc c) in
+      let stop : 0 < half_count rate * half_bits s = mul-le 1 1 (half_count rate) (half_bits s) (half_count_some rate) (stop_some s) in
+      let left : suc (length (drop bit ps)) ≡ bit * suc c + half_count rate * half_bits s = omega (arith, length-drop bit ps) in
       let less : suc c - 1 ≡ c = omega arith in
       let more_bits : eqb (suc c) 0 ≡ false = ne_eqb (suc c) 0 (λ z. omega arith) in
       let first = holds bit w (suc c) s v ps some (omega arith) in
@@ -95,12 +95,12 @@ word_bits : (f : Format) (c : ℕ) → bits (samples f) (word_of f c) ≡ bits (
 word_bits f c = by f.parity refl
   where
     with_parity : bits (width f.length + 1) (word_of f c) ≡ bits (width f.length) c ++ parity_bit f c ∷ []
-    with_parity = rw add_one (bits_above (width f.length) c (parity_bit f c))
+    with_parity = rw add-one (bits_above (width f.length) c (parity_bit f c))
 
     by : (p : Parity) → f.parity ≡ p → bits (width f.length + parity_bits p) (word_of f c) ≡ bits (width f.length) c ++ parity_level p (parity_bit f c)
     by Disabled e =
         let none : parity_bit f c ≡ false = no_parity f c e in
-        rw (none, add_zero, add_zero, append_nil) (bits_low (width f.length) c)
+        rw (none, add-zero, add-zero, append-nil) (bits_low (width f.length) c)
     by Even e = with_parity
     by Odd e = with_parity
 

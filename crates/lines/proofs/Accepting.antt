@@ -1,7 +1,7 @@
 -- The text of a command is accepted, and read as that command. Assumes nothing.
 use Rattle.std.proofs.Common.{◌≡◌, ℕ, zero, suc, ◌+◌, ◌-◌, ◌*◌, ◌/◌, ◌%◌, ◌^◌, ◌<◌, ◌≤◌, Bool, true, false, cond, not, ◌&&◌, eqb, ltb, leb, List, [], ◌∷◌, ◌++◌, length, get_or, take, drop, Ok, Err, decimal, Result, sym, refl, ap, ◌∙◌, subst, append_assoc, arith}
-use Rattle.std.proofs.lemmas.Fmt.{decimal_digit, decimal_by_steps, decimal_nonempty, first_decimal, length_decimal_le}
-use Rattle.std.proofs.lemmas.List.{append_nil, length_append, length_push, drop_at, take_at, take_all, get_or_at, get_or_push, get_or_append_add, get_or_append_left}
+use Rattle.std.proofs.lemmas.Fmt.{decimal_digit, decimal_by_steps, decimal_nonempty, first_decimal, length-decimal-le}
+use Rattle.std.proofs.lemmas.List.{append-nil, length-append, length_push, drop_at, take_at, take_all, get_or_at, get_or_push, get_or-append-add, get_or_append_left}
 use Rattle.std.proofs.lemmas.Bool.Decides.{nat_tests}
 use Rattle.faults.specs.declared.Cause.{Cause}
 use Rattle.faults.specs.declared.Cause.TheVariants.{LineTooLong, BadFields}
@@ -71,8 +71,8 @@ opens front rest n small h =
     let space : get_or text i 0 ≡ 32 = ap (λ xs. get_or xs i 0) whole ∙ get_or_at front 32 digits 0 i refl in
     let some : 0 < length (decimal n) = decimal_nonempty n (omega arith) in
     let first : get_or text (i + 1) 0 ≡ get_or (decimal n) 0 0 =
-    ap (λ xs. get_or xs (i + 1) 0) whole ∙ get_or_append_add front (32 ∷ digits) 1 0 ∙ get_or_append_left (decimal n) rest 0 0 some in
-    let second : get_or text (i + 2) 0 ≡ get_or digits 1 0 = ap (λ xs. get_or xs (i + 2) 0) whole ∙ get_or_append_add front (32 ∷ digits) 2 0 in
+    ap (λ xs. get_or xs (i + 1) 0) whole ∙ get_or-append-add front (32 ∷ digits) 1 0 ∙ get_or_append_left (decimal n) rest 0 0 some in
+    let second : get_or text (i + 2) 0 ≡ get_or digits 1 0 = ap (λ xs. get_or xs (i + 2) 0) whole ∙ get_or-append-add front (32 ∷ digits) 2 0 in
     let digit : is_digit (get_or text (i + 1) 0) ≡ true = ap is_digit first ∙ first_digit n small in
     let plain : (eqb (get_or text (i + 1) 0) 48 && is_digit (get_or text (i + 2) 0)) ≡ false =
     ap (λ b. eqb b 48 && is_digit (get_or text (i + 2) 0)) first ∙ ap (λ b. eqb (get_or (decimal n) 0 0) 48 && is_digit b) second
@@ -82,7 +82,7 @@ opens front rest n small h =
     ∙ ap not plain
 
 field_length : (front : List ℕ) (n : ℕ) → length (with_field front n) ≡ length front + 1 + length (decimal n)
-field_length front n = length_append (front ++ (32 ∷ [])) (decimal n) ∙ ap (λ m. m + length (decimal n)) (length_push front 32)
+field_length front n = length-append (front ++ (32 ∷ [])) (decimal n) ∙ ap (λ m. m + length (decimal n)) (length_push front 32)
 
 field_taken : (front rest : List ℕ) (n : ℕ) → n ≤ 4294967295 → is_digit (get_or rest 0 0) ≡ false → field (Stood front n rest) (length front) ≡ Ok (n, length (with_field front n))
 field_taken front rest n small h =
@@ -99,7 +99,7 @@ field_taken front rest n small h =
 
 -- numbers behind a text begin with a space, or there are none
 apart : (front : List ℕ) (ns : List ℕ) → with_fields front ns ≡ front ++ with_fields [] ns
-apart front [] = sym (append_nil front)
+apart front [] = sym (append-nil front)
 apart front (n ∷ ns) =
     apart (with_field front n) ns ∙ ap (λ xs. xs ++ with_fields [] ns) (append_assoc front (32 ∷ []) (decimal n))
     ∙ append_assoc front (32 ∷ decimal n) (with_fields [] ns)
@@ -159,7 +159,7 @@ command_taken (Take a) h = ap (λ r. then r (λ e. Ok (Take e))) (one_taken (84 
 -- a text of a command has at most 45 bytes, and ends in a digit
 longer : (front : List ℕ) (n k : ℕ) → n ≤ 4294967295 → length front ≤ k → length (with_field front n) ≤ k + 11
 longer front n k small h =
-    let few : length (decimal n) ≤ 10 = length_decimal_le 10 n (omega arith) (omega arith) (omega arith) in
+    let few : length (decimal n) ≤ 10 = length-decimal-le 10 n (omega arith) (omega arith) (omega arith) in
     omega (arith, field_length front n)
 
 ends_in_digit : (n : ℕ) → n ≤ 4294967295 → (xs : List ℕ) × ((d : ℕ) × ((decimal n ≡ xs ++ (d ∷ [])) × (48 ≤ d)))

@@ -3,7 +3,7 @@ use Rattle.std.proofs.Common.{◌≡◌, ℕ, zero, suc, ◌+◌, ◌-◌, ◌*�
 use Rattle.faults.specs.declared.Cause.{Cause}
 use Rattle.faults.specs.declared.Cause.TheVariants.{BadFields}
 use Rattle.std.proofs.lemmas.Fmt.{decimal_digit, decimal_step}
-use Rattle.std.proofs.lemmas.List.{take_at, take_append_drop, take_more, drop_more, get_or_drop, length_take_le, length_push}
+use Rattle.std.proofs.lemmas.List.{take_at, take-append-drop, take_more, drop_more, get_or-drop, length-take-le, length_push}
 use Rattle.std.proofs.lemmas.Bool.Decides.{nat_tests}
 use Rattle.lines.specs.Format.{largest, is_digit, goes_on, digits_from, opens_field, in_range, field}
 use Rattle.lines.specs.Texts.{with_field}
@@ -128,10 +128,10 @@ opened_read text i o =
     let front = take (i + 1) text in
     let rest = drop (i + 1 + 1) text in
     let behind : drop (i + 1) text ≡ d ∷ rest = drop_more text (i + 1) 0 lt in
-    let whole : text ≡ front ++ (d ∷ rest) = sym (take_append_drop (i + 1) text) ∙ ap (λ ys. front ++ ys) behind in
+    let whole : text ≡ front ++ (d ∷ rest) = sym (take-append-drop (i + 1) text) ∙ ap (λ ys. front ++ ys) behind in
     let front_is : front ≡ take i text ++ (32 ∷ []) = take_more text i 0 (omega arith) ∙ ap (λ b. take i text ++ (b ∷ [])) o.space in
-    let next : get_or rest 0 0 ≡ get_or text (i + 2) 0 = get_or_drop (i + 1 + 1) text 0 0 ∙ ap (λ m. get_or text m 0) (omega arith) in
-    let follows = first_read front rest d (i + 1) (length_take_le (i + 1) text (omega arith)) dig (ap (λ b. eqb d 48 && is_digit b) next ∙ o.plain) in
+    let next : get_or rest 0 0 ≡ get_or text (i + 2) 0 = get_or-drop (i + 1 + 1) text 0 0 ∙ ap (λ m. get_or text m 0) (omega arith) in
+    let follows = first_read front rest d (i + 1) (length-take-le (i + 1) text (omega arith)) dig (ap (λ b. eqb d 48 && is_digit b) next ∙ o.plain) in
     let r = digits_from (i + 1) 0 (drop (i + 1) text) in
     let there : Follows front (d ∷ rest) r = subst (Follows front (d ∷ rest)) (ap (digits_from (i + 1) 0) (sym behind)) follows in
     ap (take r.1) whole ∙ there ∙ ap (λ f. f ++ decimal r.0) front_is

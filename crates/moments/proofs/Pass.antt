@@ -1,6 +1,6 @@
 -- A pass over a list in place: what holds before the element at i. Assumes nothing.
-use Rattle.std.proofs.Common.{◌≡◌, ℕ, ◌+◌, ◌<◌, ◌≤◌, List, [], ◌∷◌, ◌++◌, length, get_or, take, drop, set, sym, ap, ◌∙◌, subst, append_assoc, append_nil, arith, take_all, drop_set_lt}
-use Rattle.std.proofs.lemmas.List.{drop_more, drop_drop, drop_all, take_more_set}
+use Rattle.std.proofs.Common.{◌≡◌, ℕ, ◌+◌, ◌<◌, ◌≤◌, List, [], ◌∷◌, ◌++◌, length, get_or, take, drop, set, sym, ap, ◌∙◌, subst, append_assoc, append-nil, arith, take_all, drop-set-lt}
+use Rattle.std.proofs.lemmas.List.{drop_more, drop-drop, drop_all, take_more_set}
 use Rattle.moments.specs.Ranks.{Turn, passed, items}
 
 module _ {S X : Type 0} where
@@ -15,7 +15,7 @@ module _ {S X : Type 0} where
   pass_more f s0 s xs0 xs i d h p =
       let x = get_or xs i d in
       let y = (f s x).item in
-      let tail : drop (i + 1) xs ≡ drop (i + 1) xs0 = sym (drop_drop 1 i xs) ∙ ap (drop 1) p.rest ∙ drop_drop 1 i xs0 in
+      let tail : drop (i + 1) xs ≡ drop (i + 1) xs0 = sym (drop-drop 1 i xs) ∙ ap (drop 1) p.rest ∙ drop-drop 1 i xs0 in
       let split : drop i xs0 ≡ x ∷ drop (i + 1) xs0 = sym p.rest ∙ drop_more xs i d h ∙ ap (λ ys. x ∷ ys) tail in
       let next : i < i + 1 = omega arith in
       record {
@@ -25,7 +25,7 @@ module _ {S X : Type 0} where
             ∙ append_assoc (take i xs) (y ∷ []) (items f (f s x).state (drop (i + 1) xs0))
             ∙ sym (ap (λ ys. take i xs ++ items f s ys) split)
             ∙ p.list;
-        rest = drop_set_lt (i + 1) xs i y next ∙ tail;
+        rest = drop-set-lt (i + 1) xs i y next ∙ tail;
       }
 
   -- one element more, by a turn that is given by an equation
@@ -39,4 +39,4 @@ module _ {S X : Type 0} where
 
   pub pass_list : (f : S → X → Turn S X) (s0 s : S) (xs0 xs : List X) (i : ℕ) → length xs0 ≤ i → length xs ≤ i → Pass f s0 s xs0 xs i → xs ≡ items f s0 xs0
   pass_list f s0 s xs0 xs i h k p =
-      sym (append_nil xs) ∙ ap (λ ys. ys ++ []) (sym (take_all i xs k)) ∙ sym (ap (λ ys. take i xs ++ items f s ys) (drop_all i xs0 h)) ∙ p.list
+      sym (append-nil xs) ∙ ap (λ ys. ys ++ []) (sym (take_all i xs k)) ∙ sym (ap (λ ys. take i xs ++ items f s ys) (drop_all i xs0 h)) ∙ p.list

@@ -1,5 +1,5 @@
 -- A pass that serves one rank does what the definitions of a moment say. Assumes nothing.
-use Rattle.std.proofs.Common.{◌≡◌, ℕ, ◌+◌, Bool, true, false, cond, ◌&&◌, List, [], ◌∷◌, sym, refl, ap, ◌∙◌, add_zero, add_assoc}
+use Rattle.std.proofs.Common.{◌≡◌, ℕ, ◌+◌, Bool, true, false, cond, ◌&&◌, List, [], ◌∷◌, sym, refl, ap, ◌∙◌, add-zero, add_assoc}
 use Rattle.faults.specs.declared.End.{End}
 use Rattle.faults.specs.declared.End.TheVariants as end
 use Rattle.acc.specs.declared.chip.Acc.{Acc}
@@ -27,7 +27,7 @@ items_numbered k s (v ∷ vs) =
 
 pub number_passed : (k : Rank) (s : Serving) (vs : List Event) → (passed (serve_one k) s vs).number ≡ s.number + how_many (belongs k) vs
 unfolding how_many
-number_passed k s [] = sym (add_zero s.number)
+number_passed k s [] = sym (add-zero s.number)
 number_passed k s (v ∷ vs) =
     elim (belongs k v) as (λ t. (passed (serve_one k) (step t k s v).state vs).number ≡ s.number + cond t (1 + how_many (belongs k) vs) (how_many (belongs k) vs)) [
       | true ↦ number_passed k (step true k s v).state vs ∙ add_assoc s.number 1 (how_many (belongs k) vs)

@@ -1,7 +1,7 @@
 -- What a channel carries: each waiting pair stands for something that was sent, and its data level is what was sent, turned over as often as
 -- its count says. Assumes nothing.
 use Rattle.std.proofs.Common.{◌≡◌, ℕ, zero, suc, ◌+◌, ◌%◌, ◌<◌, Bool, true, false, cond, not, eqb, List, [], ◌∷◌, ◌++◌, length, sym, refl, ap, ◌∙◌, arith}
-use Rattle.std.proofs.lemmas.Bool.{cond_both, eq_eqb, ne_eqb, eqb_true, eqb_false}
+use Rattle.std.proofs.lemmas.Bool.{cond_both, eq-eqb, ne_eqb, eqb-true, eqb-false}
 use Rattle.cable.specs.Channels.{Pair, Flip, Channel, inverted, invert_at, due, struck, remaining, front, behind, entered, handed, stepped}
 use Rattle.cable.specs.Passing.{turned}
 use Rattle.cable.specs.Turnings.{change_at, changed_by, first_of_list, behind_first, counts_entered, count_handed, odd}
@@ -10,8 +10,8 @@ odd_suc : (n : ℕ) → odd (suc n) ≡ not (odd n)
 odd_suc n = by (eqb (n % 2) 1) refl
   where
     by : (b : Bool) → eqb (n % 2) 1 ≡ b → eqb (suc n % 2) 1 ≡ not b
-    by true e = let h = eqb_true (n % 2) 1 e in ne_eqb (suc n % 2) 1 (λ z. omega arith)
-    by false e = let h = eqb_false (n % 2) 1 e in eq_eqb (suc n % 2) 1 (omega arith)
+    by true e = let h = eqb-true (n % 2) 1 e in ne_eqb (suc n % 2) 1 (λ z. omega arith)
+    by false e = let h = eqb-false (n % 2) 1 e in eq-eqb (suc n % 2) 1 (omega arith)
 
 not_turned : (a b : Bool) → not (turned a b) ≡ turned (not a) b
 not_turned true true = refl

@@ -1,6 +1,6 @@
 -- What a run keeps to, as facts. Assumes nothing.
 use Rattle.std.proofs.Common.{◌≡◌, Bool, true, false, not, ◌&&◌, ◌||◌, ◌⊎◌, List, [], ◌∷◌, is_ok, inl, inr}
-use Rattle.std.proofs.lemmas.Bool.{and_parts, or_cases, not_true, both_ways}
+use Rattle.std.proofs.lemmas.Bool.{and_parts, or_cases, not-true, both_ways}
 use Rattle.faults.specs.declared.End.{End}
 use Rattle.faults.specs.declared.End.TheVariants as end
 use Rattle.cable.specs.Turnings.{flip_arrives}
@@ -35,7 +35,7 @@ implied : (a b : Bool) → (not a || b) ≡ true → a ≡ true → b ≡ true
 implied a b h e = by (or_cases (not a) b h)
   where
     by : (not a ≡ true) ⊎ (b ≡ true) → b ≡ true
-    by (inl k) = absurd (both_ways a (not_true a k) e)
+    by (inl k) = absurd (both_ways a (not-true a k) e)
     by (inr k) = k
 
 writes_are : (vs : List Event) → writes_allowed_bits vs ≡ true → WritesAllowedBits vs

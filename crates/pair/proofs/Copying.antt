@@ -1,6 +1,6 @@
 -- A character that is made of inverted samples of a word is a copy of its character. Assumes nothing.
-use Rattle.std.proofs.Common.{◌≡◌, ℕ, zero, suc, ◌+◌, ◌%◌, ◌^◌, ◌<◌, ◌≤◌, Bool, true, false, cond, not, ◌&&◌, List, [], ◌∷◌, ◌++◌, map, length, get_or, sym, refl, ap, ◌∙◌, mod_eq_of_lt, add_one, arith}
-use Rattle.std.proofs.lemmas.List.{length_map, get_or_map}
+use Rattle.std.proofs.Common.{◌≡◌, ℕ, zero, suc, ◌+◌, ◌%◌, ◌^◌, ◌<◌, ◌≤◌, Bool, true, false, cond, not, ◌&&◌, List, [], ◌∷◌, ◌++◌, map, length, get_or, sym, refl, ap, ◌∙◌, mod-eq_of_lt, add-one, arith}
+use Rattle.std.proofs.lemmas.List.{length-map, get_or-map}
 use Rattle.timing.specs.declared.registers.CharacterLength.{CharacterLength}
 use Rattle.timing.specs.declared.registers.CharacterLength.TheVariants.{Five, Six, Seven, Eight}
 use Rattle.timing.specs.declared.registers.Format.{Format}
@@ -49,13 +49,13 @@ module _ (f : Format) (σ : ℕ → Bool) (c held : ℕ) (rover : Bool) (ms : Li
   data_bit : (k : ℕ) → k < width f.length → bit k (held % 2 ^ width f.length) ≡ turned (σ (get_or ms k 0)) (bit k c)
   data_bit k h =
       let l = length_bits (samples f) (word_of f c) in
-      let m = length_map ms σ in
+      let m = length-map ms σ in
       let h2 : k < samples f = omega arith in
       let a = bit_low (width f.length) held k h in
       let b = get_d_bits (samples f) held k false h2 in
       let d = ap (λ bs. get_or bs k false) heard in
       let e = getD_turn_each (map σ ms) (bits (samples f) (word_of f c)) k false (omega arith) (omega arith) in
-      let g = get_or_map σ ms k 0 false (omega arith) in
+      let g = get_or-map σ ms k 0 false (omega arith) in
       let i = get_d_bits (samples f) (word_of f c) k false h2 in
       let j = word_data f c k h in
       cc
@@ -65,8 +65,8 @@ module _ (f : Format) (σ : ℕ → Bool) (c held : ℕ) (rover : Bool) (ms : Li
   unfolding odd_held
   odd_heard =
       let few : samples f ≤ 9 = omega (arith, width_few f.length, parity_bits_few f.parity) in
-      ap (λ n. odd_among (bits 9 n)) (sym (mod_eq_of_lt low)) ∙ odd_among_low (samples f) 9 held few ∙ ap odd_among heard
-      ∙ odd_turn_each (map σ ms) (bits (samples f) (word_of f c)) (length_map ms σ ∙ all ∙ sym (length_bits (samples f) (word_of f c)))
+      ap (λ n. odd_among (bits 9 n)) (sym (mod-eq_of_lt low)) ∙ odd_among_low (samples f) 9 held few ∙ ap odd_among heard
+      ∙ odd_turn_each (map σ ms) (bits (samples f) (word_of f c)) (length-map ms σ ∙ all ∙ sym (length_bits (samples f) (word_of f c)))
 
   rper_tells : wrong_parity f.parity held ≡ (has_parity f.parity && odd_among (map σ ms))
   rper_tells = by f.parity odd_heard (odd_word f c)
@@ -75,8 +75,8 @@ module _ (f : Format) (σ : ℕ → Bool) (c held : ℕ) (rover : Bool) (ms : Li
           odd_among (bits (suc (width f.length)) (word_of f c)) ≡ odd_sent p (odd_among (bits (width f.length) c)) →
           wrong_parity p held ≡ (has_parity p && odd_among (map σ ms))
       by Disabled h w = refl
-      by Even h w = h ∙ ap (λ n. turned (odd_among (map σ ms)) (odd_among (bits n (word_of f c)))) (add_one (width f.length)) ∙ ap (turned (odd_among (map σ ms))) w ∙ turned_false (odd_among (map σ ms))
-      by Odd h w = ap not (h ∙ ap (λ n. turned (odd_among (map σ ms)) (odd_among (bits n (word_of f c)))) (add_one (width f.length)) ∙ ap (turned (odd_among (map σ ms))) w) ∙ not_turned_true (odd_among (map σ ms))
+      by Even h w = h ∙ ap (λ n. turned (odd_among (map σ ms)) (odd_among (bits n (word_of f c)))) (add-one (width f.length)) ∙ ap (turned (odd_among (map σ ms))) w ∙ turned_false (odd_among (map σ ms))
+      by Odd h w = ap not (h ∙ ap (λ n. turned (odd_among (map σ ms)) (odd_among (bits n (word_of f c)))) (add-one (width f.length)) ∙ ap (turned (odd_among (map σ ms))) w) ∙ not_turned_true (odd_among (map σ ms))
 
   pub copy_made : Copy f σ c (made f held rover ms)
   copy_made = record {

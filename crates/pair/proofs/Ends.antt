@@ -1,6 +1,6 @@
 -- What settings, allowed writes and clocks leave of a chip. Assumes nothing.
 use Rattle.std.proofs.Common.{◌≡◌, ℕ, ◌+◌, Bool, true, false, cond, not, ◌&&◌, ◌||◌, eqb, ◌⊎◌, List, [], ◌∷◌, sym, refl, ap, ◌∙◌, subst, inl, inr}
-use Rattle.std.proofs.lemmas.Bool.{both_ways, eqb_true, or_cases}
+use Rattle.std.proofs.lemmas.Bool.{both_ways, eqb-true, or_cases}
 use Rattle.faults.specs.declared.End.{End}
 use Rattle.timing.specs.declared.counts.PhiCount.{PhiCount}
 use Rattle.timing.specs.Counts.{phi}
@@ -59,15 +59,15 @@ allowed_cases : (P : ℕ → Type 0) → P 16 → P 19 → P 20 → P 21 → (a 
 allowed_cases P p16 p19 p20 p21 a h = first (or_cases (eqb a 16) (eqb a 19 || (eqb a 20 || eqb a 21)) h)
   where
     third : (eqb a 20 ≡ true) ⊎ (eqb a 21 ≡ true) → P a
-    third (inl e) = subst P (sym (eqb_true a 20 e)) p20
-    third (inr e) = subst P (sym (eqb_true a 21 e)) p21
+    third (inl e) = subst P (sym (eqb-true a 20 e)) p20
+    third (inr e) = subst P (sym (eqb-true a 21 e)) p21
 
     second : (eqb a 19 ≡ true) ⊎ ((eqb a 20 || eqb a 21) ≡ true) → P a
-    second (inl e) = subst P (sym (eqb_true a 19 e)) p19
+    second (inl e) = subst P (sym (eqb-true a 19 e)) p19
     second (inr e) = third (or_cases (eqb a 20) (eqb a 21) e)
 
     first : (eqb a 16 ≡ true) ⊎ ((eqb a 19 || (eqb a 20 || eqb a 21)) ≡ true) → P a
-    first (inl e) = subst P (sym (eqb_true a 16 e)) p16
+    first (inl e) = subst P (sym (eqb-true a 16 e)) p16
     first (inr e) = second (or_cases (eqb a 19) (eqb a 20 || eqb a 21) e)
 
 -- what an allowed write keeps, all of them keep

@@ -1,5 +1,5 @@
 -- The law of faithful transmission. Assumes nothing.
-use Rattle.std.proofs.Common.{◌≡◌, ℕ, zero, suc, ◌+◌, ◌-◌, ◌*◌, ◌<◌, ◌≤◌, Bool, true, false, cond, not, ◌&&◌, List, [], ◌∷◌, ◌++◌, length, is_ok, Some, Ok, Err, Result, sym, refl, ap, ◌∙◌, subst, mul_le_mul_right, mul_le_mul, add_one, arith}
+use Rattle.std.proofs.Common.{◌≡◌, ℕ, zero, suc, ◌+◌, ◌-◌, ◌*◌, ◌<◌, ◌≤◌, Bool, true, false, cond, not, ◌&&◌, List, [], ◌∷◌, ◌++◌, length, is_ok, Some, Ok, Err, Result, sym, refl, ap, ◌∙◌, subst, mul-le-mul_right, mul-le-mul, add-one, arith}
 use Rattle.std.proofs.lemmas.Bool.{both_ways, and_from}
 use Rattle.faults.specs.declared.End.{End}
 use Rattle.faults.specs.declared.End.TheVariants as end
@@ -39,7 +39,7 @@ use Rattle.pair.proofs.InOrder.{Oldest, oldest_same, oldest_push, nth_there, nth
 -- boards of which one receives what the other sends fit each other
 fits : (s r : Registers) → Receives s r → Fit (record { s = s; r = r })
 fits s r h =
-    let m : 1 * 1 ≤ half_count s.transmit_rate * q_at s = mul_le_mul (half_count_some s.transmit_rate) (some_q (control_of s.control).divider) in
+    let m : 1 * 1 ≤ half_count s.transmit_rate * q_at s = mul-le-mul (half_count_some s.transmit_rate) (some_q (control_of s.control).divider) in
     record {
       same = h.same_format;
       windows = record {
@@ -365,7 +365,7 @@ between_boards a b c clock clear e h =
 alike : (control interval rate other : ℕ) → Receives (record { control = control; interval = interval; receive_rate = other; transmit_rate = rate }) (record { control = control; interval = interval; receive_rate = rate; transmit_rate = other })
 alike control interval rate other =
     let n = q (control_of control).divider in
-    let m : 1 * n ≤ half_count rate * n = mul_le_mul_right n (half_count_some rate) in
+    let m : 1 * n ≤ half_count rate * n = mul-le-mul_right n (half_count_some rate) in
     record { same_format = refl; not_early = λ k _. omega arith; not_late = λ k _. omega arith }
 
 pub alike_fit : (o : Opening) (m : Bench) (e : End) → Receives (chip (opposite e) (opened o m)).registers (chip e (opened o m)).registers

@@ -1,6 +1,6 @@
 -- The calls of a host are a run. Assumes nothing.
 use Rattle.std.proofs.Common.{◌≡◌, ℕ, ◌+◌, Bool, true, false, cond, eqb, leb, List, [], ◌∷◌, ◌++◌, replicate, is_ok, Some, None, Ok, Err, Option, Result, sym, refl, ap, ◌∙◌, subst}
-use Rattle.std.proofs.lemmas.Bool.{both_ways, eqb_true}
+use Rattle.std.proofs.lemmas.Bool.{both_ways, eqb-true}
 use Rattle.faults.specs.declared.End.{End}
 use Rattle.faults.specs.declared.End.TheVariants as end
 use Rattle.faults.specs.declared.Fault.{Fault}
@@ -22,8 +22,8 @@ cases_end : (P : ℕ → Type 0) → P 0 → P 1 → ((e : ℕ) → end_of e ≡
 cases_end P zero_is one_is else e = by (eqb e 0) refl (eqb e 1) refl
   where
     by : (a : Bool) → eqb e 0 ≡ a → (b : Bool) → eqb e 1 ≡ b → P e
-    by true h b k = subst P (sym (eqb_true e 0 h)) zero_is
-    by false h true k = subst P (sym (eqb_true e 1 k)) one_is
+    by true h b k = subst P (sym (eqb-true e 0 h)) zero_is
+    by false h true k = subst P (sym (eqb-true e 1 k)) one_is
     by false h false k = else e (rw (h, k) refl)
 
 refused : {T : Type 0} (x : Result T Fault) (m n : Bench) → is_ok x ≡ false → n ≡ after_call x m n

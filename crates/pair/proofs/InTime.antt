@@ -1,7 +1,7 @@
 -- A character that waits to be sent and may go is stored in time. Assumes nothing.
-use Rattle.std.proofs.Common.{◌≡◌, ℕ, zero, suc, ◌+◌, ◌-◌, ◌*◌, ◌<◌, ◌≤◌, Bool, true, false, cond, not, ◌&&◌, leb, ◌⊎◌, List, [], ◌∷◌, ◌++◌, length, get_or, sym, refl, ap, ◌∙◌, subst, inl, inr, mul_le_mul_right, arith}
+use Rattle.std.proofs.Common.{◌≡◌, ℕ, zero, suc, ◌+◌, ◌-◌, ◌*◌, ◌<◌, ◌≤◌, Bool, true, false, cond, not, ◌&&◌, leb, ◌⊎◌, List, [], ◌∷◌, ◌++◌, length, get_or, sym, refl, ap, ◌∙◌, subst, inl, inr, mul-le-mul_right, arith}
 use Rattle.std.proofs.lemmas.List.{get_or_push, length_push, get_or_append_left, get_or_default}
-use Rattle.std.proofs.lemmas.Bool.{leb_true, both_ways, and_from, not_from_false}
+use Rattle.std.proofs.lemmas.Bool.{leb-true, both_ways, and_from, not_from_false}
 use Rattle.timing.specs.declared.registers.Format.{Format}
 use Rattle.timing.specs.Registers.{samples, half_count}
 use Rattle.sections.specs.declared.receiver.Receiving.{Receiving}
@@ -83,7 +83,7 @@ module _ (b : Boards) (fit : Fit b) (σ : ℕ → Bool) where
         let s : starts l.tx.xbre go l.tx.state ≡ true = rw z.idle (and_from (not l.tx.xbre) go (not_from_false l.tx.xbre z.full) g) in
         let p = (onward b fit σ go l i).begins e s in
         let a = get_or_push (still_under_way (level b) i.under_way i.sent) (onward b fit σ go l i).to (onward b fit σ go l i).to (length i.under_way) same_length in
-        let k : q_at b.s ≤ l.s_div + 1 = leb_true (q_at b.s) (l.s_div + 1) e in
+        let k : q_at b.s ≤ l.s_div + 1 = leb-true (q_at b.s) (l.s_div + 1) e in
         ahead (length i.under_way) 0 (omega (arith, same_length)) (subst (Since n 0) (sym a) (inr (ap length p ∙ z.next, omega arith))) (omega (arith, i.s_low, z.cost)) (omega (arith, i.s_low, z.cost))
 
     moves_by : Moving b n r i.arrived i.under_way i.sent →
@@ -123,11 +123,11 @@ module _ (b : Boards) (fit : Fit b) (σ : ℕ → Bool) where
   arrived_all n j (done {ss = ss} {p = p} m k) hd since far = omega (arith, matches_length (format b) σ ss p m)
   arrived_all n j (edge {ss = ss} {p = p} m k) hd since far = omega (arith, matches_length (format b) σ ss p m)
   arrived_all n j (begun {ss = ss} {p = p} {n = c} m e he hn at) hd since far =
-      let g : 1 * q_at b.r ≤ c * q_at b.r = mul_le_mul_right (q_at b.r) hn in
+      let g : 1 * q_at b.r ≤ c * q_at b.r = mul-le-mul_right (q_at b.r) hn in
       omega (arith, matches_length (format b) σ ss p m)
   arrived_all n j (within {ss = ss} {p = p} {n = c} {taken = taken} m e he hn hl at hm lo w) hd since far =
-      let g : 1 * q_at b.r ≤ c * q_at b.r = mul_le_mul_right (q_at b.r) hn in
-      let k : taken * (heard_count b * q_at b.r) ≤ samples (format b) * (heard_count b * q_at b.r) = mul_le_mul_right (heard_count b * q_at b.r) hl in
+      let g : 1 * q_at b.r ≤ c * q_at b.r = mul-le-mul_right (q_at b.r) hn in
+      let k : taken * (heard_count b * q_at b.r) ≤ samples (format b) * (heard_count b * q_at b.r) = mul-le-mul_right (heard_count b * q_at b.r) hl in
       omega (arith, matches_length (format b) σ ss p m)
 
   pub not_queued : (n : ℕ) (l : Link) (i : Inv b σ l) → Queues n 0 l i → ⊥

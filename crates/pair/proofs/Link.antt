@@ -1,6 +1,6 @@
 -- One direction of the bench: a transmitter, its channel, the receiver opposite, and what happened. Assumes nothing.
-use Rattle.std.proofs.Common.{◌≡◌, ℕ, zero, suc, ◌+◌, ◌-◌, ◌*◌, ◌^◌, ◌<◌, ◌≤◌, Bool, true, false, cond, not, ◌&&◌, ltb, leb, ◌⊎◌, List, [], ◌∷◌, ◌++◌, length, sym, refl, ap, ◌∙◌, subst, inl, inr, add_zero, mul_le_mul, add_one, arith}
-use Rattle.std.proofs.lemmas.Bool.{cases_lt, le_leb, lt_leb, both_ways}
+use Rattle.std.proofs.Common.{◌≡◌, ℕ, zero, suc, ◌+◌, ◌-◌, ◌*◌, ◌^◌, ◌<◌, ◌≤◌, Bool, true, false, cond, not, ◌&&◌, ltb, leb, ◌⊎◌, List, [], ◌∷◌, ◌++◌, length, sym, refl, ap, ◌∙◌, subst, inl, inr, add-zero, mul-le-mul, add-one, arith}
+use Rattle.std.proofs.lemmas.Bool.{cases_lt, le-leb, lt-leb, both_ways}
 use Rattle.timing.specs.declared.counts.Divider.{Divider}
 use Rattle.timing.specs.declared.counts.Divider.TheVariants.{By3, By4}
 use Rattle.timing.specs.declared.registers.Format.{Format}
@@ -212,8 +212,8 @@ pub low_on : (n d : ℕ) → d < n → advanced n d < n
 low_on n d h = by (cases_lt (d + 1) n)
   where
     by : (d + 1 < n) ⊎ (n ≤ d + 1) → advanced n d < n
-    by (inl k) = rw (lt_leb n (d + 1) k) k
-    by (inr k) = rw (le_leb n (d + 1) k) (omega arith)
+    by (inl k) = rw (lt-leb n (d + 1) k) k
+    by (inr k) = rw (le-leb n (d + 1) k) (omega arith)
 
 module _ (b : Boards) (fit : Fit b) (σ : ℕ → Bool) where
   pub q_some : 0 < q_at b.s
@@ -237,9 +237,9 @@ module _ (b : Boards) (fit : Fit b) (σ : ℕ → Bool) where
     where
       by : (l.s_div + 1 < q_at b.s) ⊎ (q_at b.s ≤ l.s_div + 1) → Onward (due (q_at b.s) l.s_div) go l i.sent
       by (inl k) =
-          let e : leb (q_at b.s) (l.s_div + 1) ≡ false = lt_leb (q_at b.s) (l.s_div + 1) k in
+          let e : leb (q_at b.s) (l.s_div + 1) ≡ false = lt-leb (q_at b.s) (l.s_div + 1) k in
           let w = S.waits (q_at b.s) (half_count b.s.transmit_rate) q_some h_some (format b) (stop b) i.sends in
-          let w2 : Sends (format b) (stop b) (q_at b.s) (half_count b.s.transmit_rate) i.sent.past (suc i.sent.phase) (l.s_div + 1) l.tx.state l.tx.xout = rw (add_one l.s_div) w in
+          let w2 : Sends (format b) (stop b) (q_at b.s) (half_count b.s.transmit_rate) i.sent.past (suc i.sent.phase) (l.s_div + 1) l.tx.state l.tx.xout = rw (add-one l.s_div) w in
           rw e (record {
             to = record { past = i.sent.past; phase = suc i.sent.phase };
             step = on;
@@ -249,7 +249,7 @@ module _ (b : Boards) (fit : Fit b) (σ : ℕ → Bool) where
             begins = λ y. absurd (both_ways false refl y);
           })
       by (inr k) =
-          let e : leb (q_at b.s) (l.s_div + 1) ≡ true = le_leb (q_at b.s) (l.s_div + 1) k in
+          let e : leb (q_at b.s) (l.s_div + 1) ≡ true = le-leb (q_at b.s) (l.s_div + 1) k in
           let d : suc l.s_div ≡ q_at b.s = omega (arith, i.s_low) in
           let z = S.clocks b.s.control b.s.transmit_rate (q_at b.s) q_some l.tx.xbre l.tx.buffer go d i.sends in
           rw e (record {
@@ -285,11 +285,11 @@ module _ (b : Boards) (fit : Fit b) (σ : ℕ → Bool) where
           υ.past υ.phase (advanced (q_at b.r) l.r_div) (rx_after b v l).state (rx_after b v l).seen
           (cond (due (q_at b.r) l.r_div) (marked l.time l.rx.state l.history.sampled) l.history.sampled)
       by (inl k) =
-          let e : leb (q_at b.r) (l.r_div + 1) ≡ false = lt_leb (q_at b.r) (l.r_div + 1) k in
+          let e : leb (q_at b.r) (l.r_div + 1) ≡ false = lt-leb (q_at b.r) (l.r_div + 1) k in
           let z = R.waits (format b) (sent_half b) (q_at b.r) (heard_count b) fit.windows σ (omega arith) i.follows n in
-          rw (e, add_one l.r_div) z
+          rw (e, add-one l.r_div) z
       by (inr k) =
-          let e : leb (q_at b.r) (l.r_div + 1) ≡ true = le_leb (q_at b.r) (l.r_div + 1) k in
+          let e : leb (q_at b.r) (l.r_div + 1) ≡ true = le-leb (q_at b.r) (l.r_div + 1) k in
           let d : suc l.r_div ≡ q_at b.r = omega (arith, i.r_low) in
           let z = R.clocks b.r.control b.r.receive_rate (format b) fit.same (sent_half b) (q_at b.r) fit.windows σ l.rx.buffer l.rx.rbrl l.rx.rfer l.rx.rover l.rx.rper l.time v d i.follows n hv (rw e at inside) in
           rw e z
@@ -305,7 +305,7 @@ module _ (b : Boards) (fit : Fit b) (σ : ℕ → Bool) where
       let lv = sends_level (q_at b.s) (half_count b.s.transmit_rate) q_some h_some (format b) (stop b) i.s_low i.sends in
       let c = step_carries (level b) l.channel i.counts i.under_way (l.tx.xout, control) i.sent i.carries lv in
       let n = chain_arrives b i.arrived i.under_way i.sent i.chain in
-      let now : σ l.time ≡ odd (count_handed l.channel.flips i.counts 0) = ap σ (sym (add_zero l.time)) ∙ i.inverts 0 in
+      let now : σ l.time ≡ odd (count_handed l.channel.flips i.counts 0) = ap σ (sym (add-zero l.time)) ∙ i.inverts 0 in
       let hv : level_heard l control ≡ turned (σ l.time) (level b (arriving (level b) i.under_way i.sent)) =
       c.0 ∙ ap (λ x. turned x (level b (arriving (level b) i.under_way i.sent))) (sym now) in
       let r = heard_on l i (level_heard l control) (arriving (level b) i.under_way i.sent) n hv inside in

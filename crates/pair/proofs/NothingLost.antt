@@ -1,7 +1,7 @@
 -- Where every character is taken before the next is stored, the n-th take answers a copy of the n-th character loaded. Assumes nothing.
 use Rattle.std.proofs.Common.{◌≡◌, ℕ, suc, ◌+◌, ◌<◌, ◌≤◌, Bool, true, false, cond, not, ◌&&◌, eqb, List, [], ◌∷◌, map, length, is_ok, Some, None, Ok, Err, Option, Result, sym, refl, ap, ◌∙◌, subst, arith}
-use Rattle.std.proofs.lemmas.List.{length_map}
-use Rattle.std.proofs.lemmas.Bool.{and_parts, both_ways, ne_eqb, not_true}
+use Rattle.std.proofs.lemmas.List.{length-map}
+use Rattle.std.proofs.lemmas.Bool.{and_parts, both_ways, ne_eqb, not-true}
 use Rattle.faults.specs.declared.End.{End}
 use Rattle.faults.specs.declared.Cause.TheVariants.{CableNotClear, OutOfRange}
 use Rattle.faults.specs.declared.Fault.{Fault}
@@ -27,7 +27,7 @@ unfolding TakeAnswersTheLastStoredOnce each_taken_before_the_next taken_in store
 answered [] t h = refl
 answered (stored s ∷ hs) t h =
     let both = and_parts (not (one_waits hs)) (each_taken_before_the_next hs) h in
-    let none : one_waits hs ≡ false = not_true (one_waits hs) both.0 in
+    let none : one_waits hs ≡ false = not-true (one_waits hs) both.0 in
     rw none at (answered hs t both.1)
 answered (taken x ∷ []) t h = absurd t.0
 answered (taken x ∷ (taken y ∷ hs)) t h = absurd t.0
@@ -40,7 +40,7 @@ no_overrun [] v h n s k = absurd (let z : ◌≡◌ {A = ℕ} 0 1 = cc in omega 
 no_overrun (taken x ∷ hs) v h n s k = no_overrun hs v h n s k
 no_overrun (stored t ∷ hs) v h n s k =
     let both = and_parts (not (one_waits hs)) (each_taken_before_the_next hs) h in
-    let none : one_waits hs ≡ false = not_true (one_waits hs) both.0 in
+    let none : one_waits hs ≡ false = not-true (one_waits hs) both.0 in
     by (eqb (length (stored_in hs)) n) k (v.0 ∙ none) (no_overrun hs v.1 both.1 n s)
   where
     by : (b : Bool) → cond b (Some t) (nth (stored_in hs) n) ≡ Some s → t.received.rover ≡ false → (nth (stored_in hs) n ≡ Some s → s.received.rover ≡ false) → s.received.rover ≡ false
@@ -50,7 +50,7 @@ no_overrun (stored t ∷ hs) v h n s k =
 nth_answers : (ss : List Stored) (n : ℕ) (x : Received) → nth (answers ss) n ≡ Some x → (s : Stored) × (nth ss n ≡ Some s) × (s.received ≡ x)
 unfolding nth
 nth_answers [] n x h = absurd (let z : ◌≡◌ {A = ℕ} 0 1 = cc in omega arith)
-nth_answers (s ∷ ss) n x h = by (eqb (length ss) n) (ap (λ k. eqb k n) (length_map ss (λ (s : Stored). s.received))) h (nth_answers ss n x)
+nth_answers (s ∷ ss) n x h = by (eqb (length ss) n) (ap (λ k. eqb k n) (length-map ss (λ (s : Stored). s.received))) h (nth_answers ss n x)
   where
     by : (b : Bool) → eqb (length (answers ss)) n ≡ b → cond (eqb (length (answers ss)) n) (Some s.received) (nth (answers ss) n) ≡ Some x → (nth (answers ss) n ≡ Some x → (t : Stored) × (nth ss n ≡ Some t) × (t.received ≡ x)) → (t : Stored) × (cond b (Some s) (nth ss n) ≡ Some t) × (t.received ≡ x)
     by true e k ih = let same : s.received ≡ x = (let y : Some s.received ≡ Some x = rw e at k in cc) in (s, refl, same)
@@ -83,7 +83,7 @@ lost o e r f h = record {
       });
   all_but_the_last_taken =
       let a = ap length (answered hs f.takes h) in
-      omega (arith, length_map (cond (one_waits hs) (behind_first (stored_in hs)) (stored_in hs)) (λ (s : Stored). s.received), few_left (one_waits hs) (stored_in hs));
+      omega (arith, length-map (cond (one_waits hs) (behind_first (stored_in hs)) (stored_in hs)) (λ (s : Stored). s.received), few_left (one_waits hs) (stored_in hs));
 }
   where
     hs : List Happening

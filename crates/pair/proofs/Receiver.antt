@@ -1,7 +1,7 @@
 -- A receiver at its clocks, against the waveform that arrives. Assumes nothing.
-use Rattle.std.proofs.Common.{◌≡◌, ℕ, zero, suc, ◌+◌, ◌-◌, ◌*◌, ◌^◌, ◌<◌, ◌≤◌, Bool, true, false, cond, not, ◌&&◌, eqb, ltb, leb, ◌⊎◌, List, [], ◌∷◌, ◌++◌, map, length, get_or, sym, refl, ap, ◌∙◌, subst, inl, inr, mul_le_mul_right, add_one, arith}
-use Rattle.std.proofs.lemmas.List.{length_push, map_push, length_map}
-use Rattle.std.proofs.lemmas.Bool.{cases_lt, leb_true, leb_false, le_leb, lt_leb, lt_ltb, le_ltb, cond_both, both_ways, ne_eqb}
+use Rattle.std.proofs.Common.{◌≡◌, ℕ, zero, suc, ◌+◌, ◌-◌, ◌*◌, ◌^◌, ◌<◌, ◌≤◌, Bool, true, false, cond, not, ◌&&◌, eqb, ltb, leb, ◌⊎◌, List, [], ◌∷◌, ◌++◌, map, length, get_or, sym, refl, ap, ◌∙◌, subst, inl, inr, mul-le-mul_right, add-one, arith}
+use Rattle.std.proofs.lemmas.List.{length_push, map_push, length-map}
+use Rattle.std.proofs.lemmas.Bool.{cases_lt, leb-true, leb-false, le-leb, lt-leb, lt-ltb, le-ltb, cond_both, both_ways, ne_eqb}
 use Rattle.timing.specs.declared.counts.InternalCount.{InternalCount}
 use Rattle.timing.specs.declared.registers.Format.{Format}
 use Rattle.timing.specs.Counts.{internal}
@@ -74,14 +74,14 @@ module _ (f : Format) (T q h : ℕ) (w : Windows f T q h) (σ : ℕ → Bool) wh
   no_new : (c : ℕ) (p : List ℕ) (x m n d e : ℕ) → d < q → m ≤ samples f → e < q → 0 < n → x + n * q ≡ e + (2 * m + 3) * (h * q) + d → Ended f T (c ∷ p) (suc x) → ⊥
   no_new c p x m n d e hd hm he hn due end =
       let a : (2 * suc m + 1) * (h * q) + q ≤ (2 * suc m + 2) * T = w.high (suc m) (omega arith) in
-      let b : 1 * q ≤ n * q = mul_le_mul_right q hn in
-      let g : m * T ≤ samples f * T = mul_le_mul_right T hm in
+      let b : 1 * q ≤ n * q = mul-le-mul_right q hn in
+      let g : m * T ≤ samples f * T = mul-le-mul_right T hm in
       omega arith
 
   no_new_half : (c : ℕ) (p : List ℕ) (x n d e : ℕ) → d < q → e < q → 0 < n → x + n * q ≡ e + h * q + d → Ended f T (c ∷ p) (suc x) → ⊥
   no_new_half c p x n d e hd he hn due end =
       let a : (2 * 0 + 1) * (h * q) + q ≤ (2 * 0 + 2) * T = w.high 0 (omega arith) in
-      let b : 1 * q ≤ n * q = mul_le_mul_right q hn in
+      let b : 1 * q ≤ n * q = mul-le-mul_right q hn in
       omega arith
 
   -- a φ clock without an internal clock
@@ -103,7 +103,7 @@ module _ (f : Format) (T q h : ℕ) (w : Windows f T q h) (σ : ℕ → Bool) wh
   heard_more : (c held taken : ℕ) (ms : List ℕ) (t : ℕ) (v : Bool) → length ms ≡ taken → held < 2 ^ taken → bits taken held ≡ turn_each (map σ ms) (bits taken (word_of f c)) →
       v ≡ turned (σ t) (bit taken (word_of f c)) → bits (suc taken) (held + cond v (2 ^ taken) 0) ≡ turn_each (map σ (ms ++ t ∷ [])) (bits (suc taken) (word_of f c))
   heard_more c held taken ms t v hm lo r e =
-      let l : length (map σ ms) ≡ length (bits taken (word_of f c)) = length_map ms σ ∙ hm ∙ sym (length_bits taken (word_of f c)) in
+      let l : length (map σ ms) ≡ length (bits taken (word_of f c)) = length-map ms σ ∙ hm ∙ sym (length_bits taken (word_of f c)) in
       held_push taken held v lo ∙ ap (λ bs. bs ++ v ∷ []) r ∙ ap (λ b. turn_each (map σ ms) (bits taken (word_of f c)) ++ b ∷ []) e
       ∙ sym (turn_each_push (map σ ms) (bits taken (word_of f c)) (σ t) (bit taken (word_of f c)) l)
       ∙ ap (λ ss. turn_each ss (bits taken (word_of f c) ++ bit taken (word_of f c) ∷ [])) (sym (map_push σ ms t))
@@ -138,12 +138,12 @@ module _ (control rate : ℕ) (f : Format) (same : (control_of control).format �
     where
       go : (1 < n) ⊎ (n ≤ 1) → After ss (c ∷ p) (suc x) (Half (internal n)) seen [] v
       go (inl l) =
-          let b : leb n 1 ≡ false = lt_leb n 1 l in
+          let b : leb n 1 ≡ false = lt-leb n 1 l in
           let k = pred_mul f T q h w σ n l in
           let z : Follows f T q h σ ss (c ∷ p) (suc x) 0 (Half (internal (n - 1))) v [] = begun m e he (omega arith) (omega arith) in
           rw b z
       go (inr l) =
-          let b : leb n 1 ≡ true = le_leb n 1 l in
+          let b : leb n 1 ≡ true = le-leb n 1 l in
           let k : n * q ≡ 1 * q = ap (λ i. i * q) (let y : n ≡ 1 = omega arith in y) in
           let s : 0 < h = half_count_some rate in
           let z : Follows f T q h σ ss (c ∷ p) (suc x) 0 (Character f (internal (h * 2)) 0 0) false [] = within m e he (omega arith) (omega arith) (omega arith) refl (omega arith) refl in
@@ -160,18 +160,18 @@ module _ (control rate : ℕ) (f : Format) (same : (control_of control).format �
     where
       go : (1 < n) ⊎ (n ≤ 1) → (taken < samples f) ⊎ (samples f ≤ taken) → After ss (c ∷ p) (suc x) (Character f (internal n) held taken) seen ms v
       go (inl l) k =
-          let b : leb n 1 ≡ false = lt_leb n 1 l in
+          let b : leb n 1 ≡ false = lt-leb n 1 l in
           let y = pred_mul f T q h w σ n l in
           let z : Follows f T q h σ ss (c ∷ p) (suc x) 0 (Character f (internal (n - 1)) held taken) v ms = within m e he (omega arith) hl (omega arith) hm lo r in
           rw b z
       go (inr l) (inl k) =
-          let b : leb n 1 ≡ true = le_leb n 1 l in
-          let g : ltb taken (samples f) ≡ true = lt_ltb taken (samples f) k in
+          let b : leb n 1 ≡ true = le-leb n 1 l in
+          let g : ltb taken (samples f) ≡ true = lt-ltb taken (samples f) k in
           let now : suc x ≡ e + (2 * taken + 3) * (h * q) = omega (arith, ap (λ i. i * q) (let y : n ≡ 1 = omega arith in y)) in
           let early : 2 * suc taken * T ≤ (2 * suc taken + 1) * (h * q) = w.low (suc taken) (omega arith) in
           let late : (2 * suc taken + 1) * (h * q) + q ≤ (2 * suc taken + 2) * T = w.high (suc taken) (omega arith) in
           let shown : wave f T c (suc x) ≡ bit taken (word_of f c) = wave_in f T w.some_T c (suc x) (suc taken) (omega arith) (omega arith) ∙ rw g refl in
-          let one = add_one taken in
+          let one = add-one taken in
           let s : 0 < h = half_count_some rate in
           let due2 : suc x + h * 2 * q ≡ e + (2 * (taken + 1) + 3) * (h * q) + 0 = omega arith in
           let more : bits (taken + 1) (held + cond v (2 ^ taken) 0) ≡ turn_each (map σ (ms ++ t ∷ [])) (bits (taken + 1) (word_of f c)) =
@@ -182,8 +182,8 @@ module _ (control rate : ℕ) (f : Format) (same : (control_of control).format �
           let first = first_samples taken ms hm in
           rw (b, g, first) z
       go (inr l) (inr k) =
-          let b : leb n 1 ≡ true = le_leb n 1 l in
-          let g : ltb taken (samples f) ≡ false = le_ltb taken (samples f) k in
+          let b : leb n 1 ≡ true = le-leb n 1 l in
+          let g : ltb taken (samples f) ≡ false = le-ltb taken (samples f) k in
           let now : suc x ≡ e + (2 * taken + 3) * (h * q) = omega (arith, ap (λ i. i * q) (let y : n ≡ 1 = omega arith in y)) in
           let early : 2 * suc taken * T ≤ (2 * suc taken + 1) * (h * q) = w.low (suc taken) (omega arith) in
           let len : taken ≡ samples f = omega arith in

@@ -1,7 +1,7 @@
 -- A transmitter at its clocks, against the waveform. Assumes nothing.
-use Rattle.std.proofs.Common.{◌≡◌, ℕ, zero, suc, ◌+◌, ◌-◌, ◌*◌, ◌/◌, ◌%◌, ◌^◌, ◌<◌, ◌≤◌, Bool, true, false, cond, not, ◌&&◌, eqb, ltb, leb, ◌⊎◌, List, [], ◌∷◌, sym, refl, ap, ◌∙◌, inl, inr, mul_le_mul_right, mul_le_mul, pow_suc, div_one, arith}
-use native.Mathlib.Nat.{div_div_eq_div_mul}
-use Rattle.std.proofs.lemmas.Bool.{cases_lt, le_leb, lt_leb, lt_ltb, both_ways, and_parts, eq_eqb, ne_eqb, not_true}
+use Rattle.std.proofs.Common.{◌≡◌, ℕ, zero, suc, ◌+◌, ◌-◌, ◌*◌, ◌/◌, ◌%◌, ◌^◌, ◌<◌, ◌≤◌, Bool, true, false, cond, not, ◌&&◌, eqb, ltb, leb, ◌⊎◌, List, [], ◌∷◌, sym, refl, ap, ◌∙◌, inl, inr, mul-le-mul_right, mul-le-mul, pow-suc, div-one, arith}
+use native.Mathlib.Nat.{div-div-eq-div-mul}
+use Rattle.std.proofs.lemmas.Bool.{cases_lt, le-leb, lt-leb, lt-ltb, both_ways, and_parts, eq-eqb, ne_eqb, not-true}
 use Rattle.timing.specs.declared.counts.InternalCount.{InternalCount}
 use Rattle.timing.specs.declared.registers.Format.{Format}
 use Rattle.timing.specs.declared.registers.StopLength.{StopLength}
@@ -22,9 +22,9 @@ starts xbre go (Element left word count stop) = false
 starts xbre go (Stop left) = runs_out left && (not xbre && go)
 
 pub starts_full : (xbre go : Bool) (s : Sending) → starts xbre go s ≡ true → xbre ≡ false
-starts_full xbre go Idle e = not_true xbre (and_parts (not xbre) go e).0
+starts_full xbre go Idle e = not-true xbre (and_parts (not xbre) go e).0
 starts_full xbre go (Element left word count stop) e = absurd (both_ways false refl e)
-starts_full xbre go (Stop left) e = not_true xbre (and_parts (not xbre) go (and_parts (runs_out left) (not xbre && go) e).1).0
+starts_full xbre go (Stop left) e = not-true xbre (and_parts (not xbre) go (and_parts (runs_out left) (not xbre && go) e).1).0
 
 pub two_stops : (z : StopLength) → 2 ≤ half_bits z
 two_stops One = omega arith
@@ -47,11 +47,11 @@ pub record Sent (f : Format) (z : StopLength) (q h : ℕ) (xbre : Bool) (buffer 
   pub buffer_is : y.buffer ≡ buffer
 
 word_next : (w k : ℕ) → w / 2 ^ k / 2 ≡ w / 2 ^ suc k
-word_next w k = div_div_eq_div_mul w (2 ^ k) 2 ∙ ap (λ y. w / y) (sym (pow_suc 2 k))
+word_next w k = div-div-eq-div-mul w (2 ^ k) 2 ∙ ap (λ y. w / y) (sym (pow-suc 2 k))
 
 module _ (q h : ℕ) (some_q : 0 < q) (some_h : 0 < h) where
   some_T : 0 < h * q
-  some_T = let m : 1 * 1 ≤ h * q = mul_le_mul some_h some_q in omega arith
+  some_T = let m : 1 * 1 ≤ h * q = mul-le-mul some_h some_q in omega arith
 
   pub pred_mul : (n : ℕ) → 1 < n → (n - 1) * q + q ≡ n * q
   pred_mul n l = let e : n ≡ suc (n - 1) = omega arith in let g : n * q ≡ suc (n - 1) * q = ap (λ k. k * q) e in omega arith
@@ -61,7 +61,7 @@ module _ (q h : ℕ) (some_q : 0 < q) (some_h : 0 < h) where
     pub sends_level : {p : List ℕ} {x d : ℕ} {st : Sending} {out : Bool} → d < q → Sends f z q h p x d st out → out ≡ level_at f (h * q) p x
     sends_level hd (rests {p = p} {x = x} e) = sym (mark_stopped f (h * q) some_T p x (ended_stopped f (h * q) some_T p x e))
     sends_level hd (sends {c = c} {x = x} {n = n} k hk hn lo due r o) =
-        let b : 1 * q ≤ n * q = mul_le_mul_right q hn in
+        let b : 1 * q ≤ n * q = mul-le-mul_right q hn in
         o ∙ sym (wave_in f (h * q) some_T c x k lo (omega arith))
     sends_level hd (stops {c = c} {p = p} {x = x} hn lo due) = sym (mark_stopped f (h * q) some_T (c ∷ p) x lo)
 
@@ -92,7 +92,7 @@ module _ (control rate q : ℕ) (some_q : 0 < q) (xbre : Bool) (buffer : ℕ) (g
       by : (b : Bool) → (not xbre && go) ≡ b → Sent f z q h xbre buffer p x (not xbre && go) (idle_rules control rate false go (tx st true))
       by true y =
           let s : 0 < h = half_count_some rate in
-          let g : Sends f z q h (buffer ∷ p) 0 0 (Element (internal (h * 2)) (word_of f buffer) (samples f) z) false = sends 0 (omega arith) (omega arith) (omega arith) (omega arith) (sym (div_one (word_of f buffer))) refl in
+          let g : Sends f z q h (buffer ∷ p) 0 0 (Element (internal (h * 2)) (word_of f buffer) (samples f) z) false = sends 0 (omega arith) (omega arith) (omega arith) (omega arith) (sym (div-one (word_of f buffer))) refl in
           rw y (record { next = fresh e; sending = g; xbre_is = refl; buffer_is = refl })
       by false y = rw y (record { next = on; sending = rests e; xbre_is = refl; buffer_is = refl })
 
@@ -103,13 +103,13 @@ module _ (control rate q : ℕ) (some_q : 0 < q) (xbre : Bool) (buffer : ℕ) (g
       let l : k ≡ samples f = omega arith in
       let s : 0 < h = half_count_some rate in
       let g : (2 * k + 2) * (h * q) ≡ (2 * samples f + 2) * (h * q) = ap (λ i. (2 * i + 2) * (h * q)) l in
-      let m : 1 * 2 ≤ h * half_bits z = mul_le_mul s (two_stops z) in
+      let m : 1 * 2 ≤ h * half_bits z = mul-le-mul s (two_stops z) in
       record { next = on; sending = stops (omega arith) (omega arith) (omega arith); xbre_is = refl; buffer_is = refl }
   goes_on c p x n k word (suc count) out hk now r =
       let more : eqb (suc count) 0 ≡ false = ne_eqb (suc count) 0 (λ y. omega arith) in
       let less : suc count - 1 ≡ count = omega arith in
       let s : 0 < h = half_count_some rate in
-      let inside : ltb k (samples f) ≡ true = lt_ltb k (samples f) (omega arith) in
+      let inside : ltb k (samples f) ≡ true = lt-ltb k (samples f) (omega arith) in
       let shifted : word / 2 ≡ word_of f c / 2 ^ suc k = ap (λ y. y / 2) r ∙ word_next (word_of f c) k in
       let shown : eqb (word % 2) 1 ≡ cond (ltb k (samples f)) (bit k (word_of f c)) true = ap (λ y. eqb (y % 2) 1) r ∙ rw inside refl in
       let g : Sends f z q h (c ∷ p) (suc x) 0 (Element (internal (h * 2)) (word / 2) count z) (eqb (word % 2) 1) = sends (suc k) (omega arith) (omega arith) (omega arith) (omega arith) shifted shown in
@@ -122,23 +122,23 @@ module _ (control rate q : ℕ) (some_q : 0 < q) (xbre : Bool) (buffer : ℕ) (g
     where
       by : (1 < n) ⊎ (n ≤ 1) → Sent f z q h xbre buffer (c ∷ p) x false (sent (Element (internal n) word count z) control rate false go (tx (Element (internal n) word count z) out))
       by (inl l) =
-          let b : leb n 1 ≡ false = lt_leb n 1 l in
+          let b : leb n 1 ≡ false = lt-leb n 1 l in
           let m = pred_mul q h some_q (half_count_some rate) n l in
           let g : Sends f z q h (c ∷ p) (suc x) 0 (Element (internal (n - 1)) word count z) out = sends k hk (omega arith) (omega arith) (omega arith) r o in
           rw b (record { next = on; sending = g; xbre_is = refl; buffer_is = refl })
       by (inr l) =
-          let b : leb n 1 ≡ true = le_leb n 1 l in
+          let b : leb n 1 ≡ true = le-leb n 1 l in
           rw b (goes_on c p x n k word count out hk (omega (arith, ap (λ i. i * q) (let y : n ≡ 1 = omega arith in y))) r)
   clocks hd (stops {c = c} {p = p} {x = x} {n = n} hn lo due) = by (cases_lt 1 n)
     where
       by : (1 < n) ⊎ (n ≤ 1) → Sent f z q h xbre buffer (c ∷ p) x (leb n 1 && (not xbre && go)) (sent (Stop (internal n)) control rate false go (tx (Stop (internal n)) true))
       by (inl l) =
-          let b : leb n 1 ≡ false = lt_leb n 1 l in
+          let b : leb n 1 ≡ false = lt-leb n 1 l in
           let m = pred_mul q h some_q (half_count_some rate) n l in
           let g : Sends f z q h (c ∷ p) (suc x) 0 (Stop (internal (n - 1))) true = stops (omega arith) (omega arith) (omega arith) in
           rw b (record { next = on; sending = g; xbre_is = refl; buffer_is = refl })
       by (inr l) =
-          let b : leb n 1 ≡ true = le_leb n 1 l in
-          let g : 2 * (h * q) ≤ half_bits z * (h * q) = mul_le_mul_right (h * q) (two_stops z) in
+          let b : leb n 1 ≡ true = le-leb n 1 l in
+          let g : 2 * (h * q) ≤ half_bits z * (h * q) = mul-le-mul_right (h * q) (two_stops z) in
           let now : suc x ≡ (2 * samples f + 2 + half_bits z) * (h * q) = omega (arith, ap (λ i. i * q) (let y : n ≡ 1 = omega arith in y)) in
           rw b (idles (c ∷ p) x (Stop (internal n)) (omega arith))

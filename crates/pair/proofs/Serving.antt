@@ -3,7 +3,7 @@ use Rattle.std.proofs.Common.{◌≡◌, ℕ, zero, suc, ◌+◌, ◌^◌, ◌<�
 use Rattle.faults.specs.declared.Cause.TheVariants.{OutOfRange, ClockLimit, NotOpen}
 use Rattle.faults.specs.declared.Fault.{Fault}
 use Rattle.faults.specs.Faults.{unplaced}
-use Rattle.std.proofs.lemmas.Bool.{and_parts, and_right, or_parts, both_ways, not_true, eqb_true, eqb_false, ne_eqb, leb_true, leb_false, lt_leb, cond_both}
+use Rattle.std.proofs.lemmas.Bool.{and_parts, and_right, or_parts, both_ways, not-true, eqb-true, eqb-false, ne_eqb, leb-true, leb-false, lt-leb, cond_both}
 use Rattle.faults.specs.declared.End.{End}
 use Rattle.faults.specs.declared.End.TheVariants as end
 use Rattle.sections.specs.declared.receiver.Receiving.{Receiving}
@@ -58,19 +58,19 @@ module _ (a : ℕ) (v : Bool) (x : Acc) where
 
   mode_receiver : (mode_written a v x).receiver ≡ left
   mode_receiver =
-      cond_both (eqb a 15) _ _ (λ (y : Acc). y.receiver ≡ left) (λ e. untouched _ (λ n. omega (arith, eqb_true a 15 e)) refl)
-      (λ _. cond_both (eqb a 16) _ _ (λ (y : Acc). y.receiver ≡ left) (λ e. untouched _ (λ n. omega (arith, eqb_true a 16 e)) refl)
-      (λ _. cond_both (eqb a 17) _ _ (λ (y : Acc). y.receiver ≡ left) (λ e. untouched _ (λ n. omega (arith, eqb_true a 17 e)) refl)
+      cond_both (eqb a 15) _ _ (λ (y : Acc). y.receiver ≡ left) (λ e. untouched _ (λ n. omega (arith, eqb-true a 15 e)) refl)
+      (λ _. cond_both (eqb a 16) _ _ (λ (y : Acc). y.receiver ≡ left) (λ e. untouched _ (λ n. omega (arith, eqb-true a 16 e)) refl)
+      (λ _. cond_both (eqb a 17) _ _ (λ (y : Acc). y.receiver ≡ left) (λ e. untouched _ (λ n. omega (arith, eqb-true a 17 e)) refl)
       (λ _. cond_both (eqb a 18) _ _ (λ (y : Acc). y.receiver ≡ left) (λ e. rw e refl)
-      (λ e. let n = eqb_false a 18 e in cond_both (eqb a 19) _ _ (λ (y : Acc). y.receiver ≡ left) (λ _. untouched _ n refl) (λ _. cond_both (eqb a 20) _ _ (λ (y : Acc). y.receiver ≡ left) (λ _. untouched _ n refl) (λ _. untouched _ n refl))))))
+      (λ e. let n = eqb-false a 18 e in cond_both (eqb a 19) _ _ (λ (y : Acc). y.receiver ≡ left) (λ _. untouched _ n refl) (λ _. cond_both (eqb a 20) _ _ (λ (y : Acc). y.receiver ≡ left) (λ _. untouched _ n refl) (λ _. untouched _ n refl))))))
 
   write_receiver : eqb a 31 ≡ false → (write_of a v x).receiver ≡ left
   unfolding write_of
   write_receiver h =
-      cond_both (leb a 10) _ _ (λ (y : Acc). y.receiver ≡ left) (λ e. untouched _ (λ n. omega (arith, leb_true a 10 e)) low_receiver)
-      (λ _. cond_both (leb a 14) _ _ (λ (y : Acc). y.receiver ≡ left) (λ e. untouched _ (λ n. omega (arith, leb_true a 14 e)) flag_receiver)
+      cond_both (leb a 10) _ _ (λ (y : Acc). y.receiver ≡ left) (λ e. untouched _ (λ n. omega (arith, leb-true a 10 e)) low_receiver)
+      (λ _. cond_both (leb a 14) _ _ (λ (y : Acc). y.receiver ≡ left) (λ e. untouched _ (λ n. omega (arith, leb-true a 14 e)) flag_receiver)
       (λ _. cond_both (leb a 21) _ _ (λ (y : Acc). y.receiver ≡ left) (λ e. mode_receiver)
-      (λ e. cond_both (eqb a 31) _ _ (λ (y : Acc). y.receiver ≡ left) (λ k. absurd (both_ways (eqb a 31) h k)) (λ _. untouched _ (λ n. omega (arith, leb_false a 21 e)) refl))))
+      (λ e. cond_both (eqb a 31) _ _ (λ (y : Acc). y.receiver ≡ left) (λ k. absurd (both_ways (eqb a 31) h k)) (λ _. untouched _ (λ n. omega (arith, leb-false a 21 e)) refl))))
 
 released_rover : (b : Bool) (r : Receiver) → (cond b (released r) r).rover ≡ r.rover
 released_rover true r = refl
@@ -117,7 +117,7 @@ stop_heard control rate v r Idle h = absurd (both_ways false refl h)
 stop_heard control rate v r (Half left) h = absurd (both_ways false refl h)
 stop_heard control rate v r (Character f left n taken) h =
     let both = and_parts (runs_out left) (not (ltb taken (samples f))) h in
-    let none = not_true (ltb taken (samples f)) both.1 in
+    let none = not-true (ltb taken (samples f)) both.1 in
     rw (both.0, none) (refl, refl)
 
 no_stop_heard : (control rate : ℕ) (v : Bool) (r : Receiver) (st : Receiving) → stops_at st ≡ false → held_for_the_processor (heard st control rate v r) ≡ held_for_the_processor r
@@ -173,7 +173,7 @@ accepted_shows vs m h = subst (OverrunsShow vs m) (sym (done_ok (moment_reply vs
 -- a moment without events is accepted on an open bench before the last clock
 idle_accepted : (m : Bench) → m.is_open ≡ true → m.clock < last_clock → is_ok (moment_reply [] m) ≡ true
 unfolding moment_refusal first_of first_repeat first_shut
-idle_accepted m o c = rw (o, lt_leb last_clock m.clock c) refl
+idle_accepted m o c = rw (o, lt-leb last_clock m.clock c) refl
 
 moved_open : (m : Bench) → (moved [] m).is_open ≡ m.is_open
 unfolding moved
@@ -203,4 +203,4 @@ single_moments n r h = by (ltb 100000 n) r.bench.is_open refl (leb (r.bench.cloc
     by true b o c k e = absurd (both_ways false refl e)
     by false false o c k e = absurd (both_ways false refl e)
     by false true o false k e = absurd (both_ways false refl e)
-    by false true o true k e = single_moves n r o (leb_true (r.bench.clock + n) last_clock k)
+    by false true o true k e = single_moves n r o (leb-true (r.bench.clock + n) last_clock k)

@@ -1,6 +1,6 @@
 -- Each direction of the bench is a link, and every call keeps what holds of it. Assumes nothing.
-use Rattle.std.proofs.Common.{◌≡◌, ℕ, zero, suc, ◌+◌, ◌-◌, ◌*◌, ◌%◌, ◌<◌, ◌≤◌, Bool, true, false, cond, not, ◌&&◌, eqb, ltb, leb, List, [], ◌∷◌, ◌++◌, length, replicate, sym, refl, ap, ◌∙◌, subst, zero_add, arith}
-use Rattle.std.proofs.lemmas.Bool.{both_ways, and_parts, eqb_true, lt_ltb}
+use Rattle.std.proofs.Common.{◌≡◌, ℕ, zero, suc, ◌+◌, ◌-◌, ◌*◌, ◌%◌, ◌<◌, ◌≤◌, Bool, true, false, cond, not, ◌&&◌, eqb, ltb, leb, List, [], ◌∷◌, ◌++◌, length, replicate, sym, refl, ap, ◌∙◌, subst, zero-add, arith}
+use Rattle.std.proofs.lemmas.Bool.{both_ways, and_parts, eqb-true, lt-ltb}
 use Rattle.faults.specs.declared.End.{End}
 use Rattle.faults.specs.declared.End.TheVariants as end
 use Rattle.timing.specs.Registers.{control_of, half_count}
@@ -146,7 +146,7 @@ module _ (o : Bench) (vs : List Event) (r : Run) (w : WritesAllowedBits vs) (z :
   }
 
   odd_arrives : (n : ℕ) → odd n ≡ true → ltb 0 n ≡ true
-  odd_arrives n h = let e = eqb_true (n % 2) 1 h in lt_ltb 0 n (omega arith)
+  odd_arrives n h = let e = eqb-true (n % 2) 1 h in lt-ltb 0 n (omega arith)
 
   pub moved_inside : (e : End) → FallsInsideACharacter o e vs r → Inside (boards_to e o) (is_inverted (channel_to e o)) (control_to e) (link_to e r)
   moved_inside e h y =
@@ -322,7 +322,7 @@ opened_inv b c h = record {
   loads = refl;
   chain = tags_chain b 0 c.waiting;
   carries = clear_carries b 1 c.waiting h;
-  inverts = λ j. ap (is_inverted c) (zero_add j);
+  inverts = λ j. ap (is_inverted c) (zero-add j);
   follows = R.done tt tt;
   told = record { overruns = tt; takes = tt; holds = refl; latest = λ z. absurd (both_ways false refl z) };
 }

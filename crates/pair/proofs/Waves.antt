@@ -1,7 +1,7 @@
 -- The waveform of a sender, and how far it has come. Assumes nothing.
-use Rattle.std.proofs.Common.{◌≡◌, ℕ, zero, suc, ◌+◌, ◌*◌, ◌/◌, ◌<◌, ◌≤◌, Bool, true, false, cond, ltb, List, [], ◌∷◌, refl, ap, le_div_iff_mul_le, arith}
-use native.Mathlib.Nat.{div_eq_of_lt_le}
-use Rattle.std.proofs.lemmas.Bool.{le_ltb}
+use Rattle.std.proofs.Common.{◌≡◌, ℕ, zero, suc, ◌+◌, ◌*◌, ◌/◌, ◌<◌, ◌≤◌, Bool, true, false, cond, ltb, List, [], ◌∷◌, refl, ap, le-div_iff_mul-le, arith}
+use native.Mathlib.Nat.{div-eq_of_lt-le}
+use Rattle.std.proofs.lemmas.Bool.{le-ltb}
 use Rattle.timing.specs.declared.registers.Format.{Format}
 use Rattle.timing.specs.Registers.{bit, samples}
 use Rattle.sections.specs.Transmit.{word_of}
@@ -13,7 +13,7 @@ element f c (suc k) = cond (ltb k (samples f)) (bit k (word_of f c)) true
 
 past_elements : (f : Format) (c k : ℕ) → samples f < k → element f c k ≡ true
 past_elements f c zero h = absurd (omega arith)
-past_elements f c (suc k) h = rw (le_ltb k (samples f) (omega arith)) refl
+past_elements f c (suc k) h = rw (le-ltb k (samples f) (omega arith)) refl
 
 -- the level that a sender with half-bits of T φ clocks has x φ clocks after it began the start of c
 unfoldable pub wave : Format → ℕ → ℕ → ℕ → Bool
@@ -47,13 +47,13 @@ module _ (f : Format) (T : ℕ) (some_T : 0 < T) where
   -- inside element k
   pub wave_in : (c x k : ℕ) → 2 * k * T ≤ x → x < (2 * k + 2) * T → wave f T c x ≡ element f c k
   unfolding wave
-  wave_in c x k a b = ap (element f c) (div_eq_of_lt_le (2 * T) (omega arith) (omega arith))
+  wave_in c x k a b = ap (element f c) (div-eq_of_lt-le (2 * T) (omega arith) (omega arith))
 
   pub mark_stopped : (p : List ℕ) (x : ℕ) → Stopped f T p x → level_at f T p x ≡ true
   unfolding wave
   mark_stopped [] x k = refl
   mark_stopped (c ∷ p) x k =
-      let a : suc (samples f) ≤ x / (2 * T) = (le_div_iff_mul_le {k = 2 * T} (omega arith)).1 (omega arith) in
+      let a : suc (samples f) ≤ x / (2 * T) = (le-div_iff_mul-le {k = 2 * T} (omega arith)).1 (omega arith) in
       past_elements f c (x / (2 * T)) (omega arith)
 
   pub ended_stopped : (p : List ℕ) (x : ℕ) → Ended f T p x → Stopped f T p x

@@ -1,6 +1,6 @@
 -- The bits of a word, samples that are inverted, and parity. Assumes nothing.
-use Rattle.std.proofs.Common.{◌≡◌, ℕ, zero, suc, ◌+◌, ◌*◌, ◌/◌, ◌%◌, ◌^◌, ◌<◌, ◌≤◌, Bool, true, false, cond, not, eqb, List, [], ◌∷◌, ◌++◌, map, length, get_or, sym, refl, ap, ◌∙◌, mod_eq_of_lt, div_one, add_one, arith}
-use native.Mathlib.Nat.{div_div_eq_div_mul, pow_succ'}
+use Rattle.std.proofs.Common.{◌≡◌, ℕ, zero, suc, ◌+◌, ◌*◌, ◌/◌, ◌%◌, ◌^◌, ◌<◌, ◌≤◌, Bool, true, false, cond, not, eqb, List, [], ◌∷◌, ◌++◌, map, length, get_or, sym, refl, ap, ◌∙◌, mod-eq_of_lt, div-one, add-one, arith}
+use native.Mathlib.Nat.{div-div-eq-div-mul, pow-succ'}
 use Rattle.std.proofs.lemmas.List.{get_or_append_left}
 use Rattle.timing.specs.declared.registers.Format.{Format}
 use Rattle.timing.specs.declared.registers.Parity.{Parity}
@@ -32,7 +32,7 @@ turned_not false = refl
 
 -- bit k of the half is bit k + 1
 bit_half : (k c : ℕ) → bit k (c / 2) ≡ bit (suc k) c
-bit_half k c = ap (λ x. eqb (x % 2) 1) (div_div_eq_div_mul c 2 (2 ^ k) ∙ ap (λ y. c / y) (sym (pow_succ' 2 k)))
+bit_half k c = ap (λ x. eqb (x % 2) 1) (div-div-eq-div-mul c 2 (2 ^ k) ∙ ap (λ y. c / y) (sym (pow-succ' 2 k)))
 
 pub length_bits : (n c : ℕ) → length (bits n c) ≡ n
 unfolding bits
@@ -42,22 +42,22 @@ length_bits (suc n) c = ap suc (length_bits n (c / 2))
 pub get_d_bits : (n c k : ℕ) (d : Bool) → k < n → get_or (bits n c) k d ≡ bit k c
 unfolding bits
 get_d_bits zero c k d h = absurd (omega arith)
-get_d_bits (suc n) c zero d h = ap (λ x. eqb (x % 2) 1) (sym (div_one c))
+get_d_bits (suc n) c zero d h = ap (λ x. eqb (x % 2) 1) (sym (div-one c))
 get_d_bits (suc n) c (suc k) d h = get_d_bits n (c / 2) k d (omega arith) ∙ bit_half k c
 
 -- one bit more
 pub bits_push : (n c : ℕ) → bits (suc n) c ≡ bits n c ++ bit n c ∷ []
 unfolding bits
-bits_push zero c = ap (λ x. eqb (x % 2) 1 ∷ []) (sym (div_one c))
+bits_push zero c = ap (λ x. eqb (x % 2) 1 ∷ []) (sym (div-one c))
 bits_push (suc n) c = ap (λ bs. eqb (c % 2) 1 ∷ bs) (bits_push n (c / 2) ∙ ap (λ b. bits n (c / 2) ++ b ∷ []) (bit_half n c))
 
 -- a bit above n low ones
 pub held_push : (n h : ℕ) (v : Bool) → h < 2 ^ n → bits (suc n) (h + cond v (2 ^ n) 0) ≡ bits n h ++ v ∷ []
-held_push n h v l = ap (λ x. bits (suc n) (x + cond v (2 ^ n) 0)) (sym (mod_eq_of_lt l)) ∙ bits_above n h v
+held_push n h v l = ap (λ x. bits (suc n) (x + cond v (2 ^ n) 0)) (sym (mod-eq_of_lt l)) ∙ bits_above n h v
 
 pub held_low : (n h : ℕ) (v : Bool) → h < 2 ^ n → h + cond v (2 ^ n) 0 < 2 ^ suc n
-held_low n h true l = let p = pow_succ' 2 n in omega arith
-held_low n h false l = let p = pow_succ' 2 n in omega arith
+held_low n h true l = let p = pow-succ' 2 n in omega arith
+held_low n h false l = let p = pow-succ' 2 n in omega arith
 
 -- a bit of a number that is cut to its low n
 pub bit_low : (n c k : ℕ) → k < n → bit k (c % 2 ^ n) ≡ bit k c

@@ -1,6 +1,6 @@
 -- Counting labels. Assumes nothing.
 use Rattle.std.proofs.Common.{◌≡◌, ℕ, zero, suc, ◌+◌, ◌<◌, true, eqb, ltb, List, [], ◌∷◌, length, get_or, set, is_some, Some, None, Option, sym, refl, ap, ◌∙◌, arith}
-use Rattle.std.proofs.lemmas.Bool.{lt_ltb, le_ltb, eqb_true}
+use Rattle.std.proofs.lemmas.Bool.{lt-ltb, le-ltb, eqb-true}
 use Rattle.totes.specs.declared.outcome.Loss.{Loss}
 use Rattle.totes.specs.declared.outcome.Fate.{Fate}
 use Rattle.totes.specs.declared.outcome.Fate.TheVariants.{Whole, Damaged, Lost}
@@ -43,9 +43,9 @@ told_when_damaged o fs i d g e h =
     told_by_count o fs (set fs i g) (ap (λ x. count_fate Lost (set fs i x)) e ∙ damage_loses_none fs i d) ∙ h
 
 pub told_when_lost : (fs : List Fate) (i : ℕ) → i < length fs → ltb 0 (count_fate Lost (set fs i Lost)) ≡ true
-told_when_lost fs i h = lt_ltb 0 (count_fate Lost (set fs i Lost)) (set_lost fs i h)
+told_when_lost fs i h = lt-ltb 0 (count_fate Lost (set fs i Lost)) (set_lost fs i h)
 
 -- there is a first loss exactly if a label is lost
 pub first_loss_if_lost : (o : Option Loss) (fs : List Fate) (n : ℕ) → n ≡ count_fate Lost fs → loss_told o fs ≡ true → is_some o ≡ ltb 0 n
 first_loss_if_lost (Some l) fs n e h = sym (ap (λ m. ltb 0 m) e ∙ h)
-first_loss_if_lost None fs n e h = sym (le_ltb 0 n (omega (arith, e, eqb_true (count_fate Lost fs) 0 h)))
+first_loss_if_lost None fs n e h = sym (le-ltb 0 n (omega (arith, e, eqb-true (count_fate Lost fs) 0 h)))

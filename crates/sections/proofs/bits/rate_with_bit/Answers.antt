@@ -3,4 +3,4 @@ use Rattle.sections.proofs.bits.rate_with_bit.Goals as goal
 
 pub returns : goal.returns
 unfolding bit_written
-returns c = c.put-bit.ensures
+returns c = c.put_bit.ensures

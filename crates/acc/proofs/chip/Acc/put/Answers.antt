@@ -2,9 +2,9 @@ use Rattle.acc.specs.Calls.{put_answer, put_of}
 use Rattle.acc.specs.Sound.{sound}
 use Rattle.acc.proofs.chip.Acc.put.Goals as goal
 
-pub try_put_requires : goal.try_put_requires
+pub try_put-requires : goal.try_put-requires
 unfolding sound
-try_put_requires c = c.requires
+try_put-requires c = c.requires
 
 pub returns : goal.returns
 unfolding put_answer put_of sound

@@ -1,4 +1,4 @@
-use Rattle.std.proofs.Common.{◌+◌, ◌^◌, cond, sym, refl, ap, ◌∙◌, add_one, arith}
+use Rattle.std.proofs.Common.{◌+◌, ◌^◌, cond, sym, refl, ap, ◌∙◌, add-one, arith}
 use Rattle.acc.specs.Inputs.{bits_read, read_of}
 use Rattle.acc.proofs.chip.Acc.read_bits.Goals as goal
 
@@ -16,5 +16,5 @@ loop-i-preserved c =
       c.with-bit-above-value.ensures.value
           ∙ ap (λ b. c.loop-i.value + cond b (2 ^ i) 0) c.read.ensures
           ∙ ap (λ v. v + cond (read_of (a + i) e) (2 ^ i) 0) c.loop-i.invariant.1
-          ∙ ap (λ n. bits_read n a e) (sym (add_one i)),
+          ∙ ap (λ n. bits_read n a e) (sym (add-one i)),
     )

@@ -5,8 +5,8 @@ use Rattle.std.proofs.lemmas.List.{length_push}
 use Rattle.lines.specs.Texts.{so_far}
 use Rattle.lines.proofs.text.Text.+push_digits.Goals as goal
 
-pub push_requires : goal.push_requires
-push_requires t c = omega (arith, ap length (decimal_digit c.args.n (omega arith)), c.requires)
+pub push-requires : goal.push-requires
+push-requires t c = omega (arith, ap length (decimal_digit c.args.n (omega arith)), c.requires)
 
 pub returns-then-n-lt10 : goal.returns-then-n-lt10
 returns-then-n-lt10 t c =
@@ -16,8 +16,8 @@ returns-then-n-lt10 t c =
       longer = omega (arith, ap length d, c.push.ensures.longer);
     }
 
-pub push_digits_requires : goal.push_digits_requires
-push_digits_requires t c =
+pub push_digits-requires : goal.push_digits-requires
+push_digits-requires t c =
     let d = ap length (decimal_step c.args.n (omega arith) (omega arith)) ∙ length_push (decimal (c.args.n / 10)) (48 + c.args.n % 10) in
     (search rules, omega (arith, d, c.requires))
 

@@ -1,4 +1,4 @@
-use Rattle.std.proofs.Common.{◌∙◌, length_set}
+use Rattle.std.proofs.Common.{◌∙◌, length-set}
 use Rattle.totes.specs.declared.outcome.Fate.TheVariants.{Whole}
 use Rattle.totes.proofs.Counting.{told_when_damaged}
 use Rattle.totes.proofs.log.Log.damage.Goals as goal
@@ -6,6 +6,6 @@ use Rattle.totes.proofs.log.Log.damage.Goals as goal
 pub invariant-of-self : goal.invariant-of-self
 invariant-of-self c =
     let log = c.args.self.now in (
-      length_set log.labels c.args.label c.damaged.result ∙ log.whole,
+      length-set log.labels c.args.label c.damaged.result ∙ log.whole,
       (told_when_damaged log.first_loss log.labels c.args.label Whole c.damaged.result c.damaged.ensures log.told, tt),
     )

@@ -1,4 +1,4 @@
-use Rattle.std.proofs.Common.{◌∙◌, arith, length_set}
+use Rattle.std.proofs.Common.{◌∙◌, arith, length-set}
 use Rattle.totes.specs.declared.outcome.Fate.TheVariants.{Lost}
 use Rattle.totes.proofs.Counting.{told_when_lost}
 use Rattle.totes.proofs.log.Log.lose.Goals as goal
@@ -7,6 +7,6 @@ pub invariant-of-self : goal.invariant-of-self
 invariant-of-self c =
     let log = c.args.self.now in
     let label = c.args.loss.position.label in (
-      length_set log.labels label Lost ∙ log.whole,
+      length-set log.labels label Lost ∙ log.whole,
       (told_when_lost log.labels label (omega (arith, log.whole, c.if-label-lt20.true)), tt),
     )
