@@ -9,4 +9,4 @@ pub returns : goal.returns
 returns g c =
     let address = c.args.address in
     let count = c.args.count in
-    answered (get_answer address count) (end_of c.args.end) (span_fits address count) (bench_of g.C.Cable.meaning c.args.self.now) c.try-get.ensures
+    answered (get_answer address count) (end_of c.args.end) (span_fits address count) (bench_of g.C.Cable.meaning c.args.self.now) c.try_get.ensures

@@ -11,6 +11,6 @@ returns g c =
     let fits = leb c.args.character 255 in
     let m = bench_of g.C.Cable.meaning c.args.self.now in
     record {
-      answer = answered load_answer e fits m c.try-load.ensures.answer;
-      state = left load_answer (load_of c.args.character) (load_kept c.args.character) e fits m c.try-load.ensures.state;
+      answer = answered load_answer e fits m c.try_load.ensures.answer;
+      state = left load_answer (load_of c.args.character) (load_kept c.args.character) e fits m c.try_load.ensures.state;
     }

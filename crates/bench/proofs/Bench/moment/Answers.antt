@@ -10,11 +10,11 @@ pub returns : goal.returns
 returns g c =
     let vs = c.args.events.now in
     let m = bench_of g.C.Cable.meaning c.args.self.now in
-    let answer = answered vs m c.try-moment.ensures.answer in
-    let state = left vs m answer c.try-moment.ensures.state in
+    let answer = answered vs m c.try_moment.ensures.answer in
+    let state = left vs m answer c.try_moment.ensures.state in
     record {
       answer = answer;
       state = state;
-      list = list_left_after c.try-moment.result vs c.try-moment.ensures.list;
+      list = list_left_after c.try_moment.result vs c.try_moment.ensures.list;
       overruns = λ h. subst (OverrunsShow vs m) (sym state) (accepted_shows vs m (sym (ap is_ok answer) ∙ h));
     }

@@ -10,7 +10,7 @@ returns g c =
     let o = opening c.args.start c.args.control c.args.x c.args.r c.args.interval in
     let m = bench_of g.C.Cable.meaning c.args.self.now in
     record {
-      answer = c.try-open.ensures.answer;
-      state = c.try-open.ensures.state;
-      transmits = λ h. subst (Transmits o) (sym c.try-open.ensures.state) (opened_transmits o m (sym (ap is_ok c.try-open.ensures.answer) ∙ h));
+      answer = c.try_open.ensures.answer;
+      state = c.try_open.ensures.state;
+      transmits = λ h. subst (Transmits o) (sym c.try_open.ensures.state) (opened_transmits o m (sym (ap is_ok c.try_open.ensures.answer) ∙ h));
     }

@@ -12,6 +12,6 @@ returns g c =
     let fits = span_fits c.args.address c.args.count && leb c.args.value 65535 in
     let m = bench_of g.C.Cable.meaning c.args.self.now in
     record {
-      answer = answered put_answer e fits m c.try-put.ensures.answer;
-      state = left put_answer (put_of c.args.address c.args.count c.args.value) (put_kept c.args.address c.args.count c.args.value) e fits m c.try-put.ensures.state;
+      answer = answered put_answer e fits m c.try_put.ensures.answer;
+      state = left put_answer (put_of c.args.address c.args.count c.args.value) (put_kept c.args.address c.args.count c.args.value) e fits m c.try_put.ensures.state;
     }

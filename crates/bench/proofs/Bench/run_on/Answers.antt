@@ -16,7 +16,7 @@ loop-i-preserved g c =
     let m = bench_of g.C.Cable.meaning c.loop-i.self in
     let k = c.args.n - (c.loop-i.i + 1) in
     let left : c.args.n - c.loop-i.i ≡ suc k = omega arith in
-    let step = c.clock-once.ensures in (
+    let step = c.clock_once.ensures in (
       omega (arith, ap (λ (b : Bench). b.clock) step, c.loop-i.invariant.0),
       ap (moves k) (step ∙ clock_is_moved m) ∙ sym (ap (λ n. moves n m) left) ∙ c.loop-i.invariant.1,
     )

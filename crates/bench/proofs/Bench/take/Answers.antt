@@ -11,6 +11,6 @@ returns g c =
     let fits = true in
     let m = bench_of g.C.Cable.meaning c.args.self.now in
     record {
-      answer = answered take_answer e fits m c.try-take.ensures.answer;
-      state = left take_answer take_of take_kept e fits m c.try-take.ensures.state;
+      answer = answered take_answer e fits m c.try_take.ensures.answer;
+      state = left take_answer take_of take_kept e fits m c.try_take.ensures.state;
     }

@@ -4,12 +4,12 @@ use Rattle.std.proofs.lemmas.Bool.Decides.{nat_tests}
 use Rattle.lines.specs.Format.{digits_from, goes_on}
 use Rattle.lines.proofs.reading.read_digits.Goals as goal
 
-pub returns-then-not-goes-on : goal.returns-then-not-goes-on
+pub returns-then-not-goes_on : goal.returns-then-not-goes_on
 returns-then-not-goes-on c =
     let i = c.loop-i.i in
     let v = c.loop-i.value in
     let xs = c.args.text.now in
-    let out : goes_on v (get_or xs i 0) ≡ false = sym c.goes-on.ensures ∙ c.if-not-goes-on.true in
+    let out : goes_on v (get_or xs i 0) ≡ false = sym c.goes_on.ensures ∙ c.if-not-goes_on.true in
     record {
       value =
           sym (sym c.loop-i.invariant.2 ∙ at_drop_more (digits_from i v) xs i 0 (omega arith)
@@ -22,7 +22,7 @@ loop-i-preserved c =
     let i = c.loop-i.i in
     let v = c.loop-i.value in
     let xs = c.args.text.now in
-    let out : goes_on v (get_or xs i 0) ≡ true = sym c.goes-on.ensures ∙ c.if-not-goes-on.false in (
+    let out : goes_on v (get_or xs i 0) ≡ true = sym c.goes_on.ensures ∙ c.if-not-goes_on.false in (
       omega arith,
       grind (arith, nat_tests),
       sym (at_drop_more (digits_from i v) xs i 0 (omega arith)

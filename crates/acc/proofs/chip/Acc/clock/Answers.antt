@@ -8,4 +8,4 @@ run_clock-requires c = c.requires
 
 pub returns : goal.returns
 unfolding clock_of sound
-returns c = c.run-clock.ensures
+returns c = c.run_clock.ensures

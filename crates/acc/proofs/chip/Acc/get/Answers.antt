@@ -3,4 +3,4 @@ use Rattle.acc.proofs.chip.Acc.get.Goals as goal
 
 pub returns : goal.returns
 unfolding get_answer
-returns c = c.try-get.ensures
+returns c = c.try_get.ensures

@@ -8,4 +8,4 @@ try_load-requires c = c.requires
 
 pub returns : goal.returns
 unfolding load_answer load_of sound
-returns c = c.try-load.ensures
+returns c = c.try_load.ensures

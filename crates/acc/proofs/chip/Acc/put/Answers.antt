@@ -8,4 +8,4 @@ try_put-requires c = c.requires
 
 pub returns : goal.returns
 unfolding put_answer put_of sound
-returns c = c.try-put.ensures
+returns c = c.try_put.ensures

@@ -12,8 +12,8 @@ loop-i-preserved c =
     let i = c.loop-i.i in
     let a = c.args.address in
     let e = c.args.self.now in (
-      c.with-bit-above-value.ensures.low,
-      c.with-bit-above-value.ensures.value
+      c.with_bit_above-value.ensures.low,
+      c.with_bit_above-value.ensures.value
           ∙ ap (λ b. c.loop-i.value + cond b (2 ^ i) 0) c.read.ensures
           ∙ ap (λ v. v + cond (read_of (a + i) e) (2 ^ i) 0) c.loop-i.invariant.1
           ∙ ap (λ n. bits_read n a e) (sym (add-one i)),

@@ -3,4 +3,4 @@ use Rattle.acc.proofs.chip.Acc.serve.Goals as goal
 
 pub returns : goal.returns
 unfolding serve_of
-returns c = c.serve-sections.ensures
+returns c = c.serve_sections.ensures

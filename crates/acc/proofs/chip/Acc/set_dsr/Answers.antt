@@ -7,4 +7,4 @@ drive_dsr-requires c = c.requires
 
 pub returns : goal.returns
 unfolding sound
-returns c = c.drive-dsr.ensures
+returns c = c.drive_dsr.ensures

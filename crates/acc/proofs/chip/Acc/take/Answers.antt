@@ -8,4 +8,4 @@ try_take-requires c = c.requires
 
 pub returns : goal.returns
 unfolding take_answer take_of sound
-returns c = c.try-take.ensures
+returns c = c.try_take.ensures

@@ -8,4 +8,4 @@ write_bit-requires c = c.requires
 
 pub returns : goal.returns
 unfolding write_of sound
-returns c = c.write-bit.ensures
+returns c = c.write_bit.ensures

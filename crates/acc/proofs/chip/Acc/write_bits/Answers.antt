@@ -14,8 +14,8 @@ loop-i-preserved c =
     let k = c.args.count - (c.loop-i.i + 1) in
     let n : c.args.count - c.loop-i.i ≡ suc k = omega arith in
     let a : c.args.address + (c.loop-i.i + 1) ≡ c.args.address + c.loop-i.i + 1 = omega arith in (
-      c.write-lowest.ensures.sound,
-      (λ j. bits_written k (a j) (c.loop-i.rest / 2) (c.write-lowest.ensures.step j))
+      c.write_lowest.ensures.sound,
+      (λ j. bits_written k (a j) (c.loop-i.rest / 2) (c.write_lowest.ensures.step j))
           ∙ sym (ap (λ m. bits_written m (c.args.address + c.loop-i.i) c.loop-i.rest c.loop-i.self) n)
           ∙ c.loop-i.invariant.1,
     )

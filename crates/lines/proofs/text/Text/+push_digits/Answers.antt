@@ -24,7 +24,7 @@ push_digits-requires t c =
 pub push_requires_2 : goal.push_requires_2
 push_requires_2 t c =
     let d = ap length (decimal_step c.args.n (omega arith) (omega arith)) ∙ length_push (decimal (c.args.n / 10)) (48 + c.args.n % 10) in
-    omega (arith, d, c.requires, c.push-digits.ensures.longer)
+    omega (arith, d, c.requires, c.push_digits.ensures.longer)
 
 pub returns : goal.returns
 returns t c =
@@ -34,8 +34,8 @@ returns t c =
     let before = so_far c.args.self.now in
     record {
       text =
-          c.push-2.ensures.text ∙ ap (λ xs. xs ++ (b ∷ [])) c.push-digits.ensures.text
+          c.push-2.ensures.text ∙ ap (λ xs. xs ++ (b ∷ [])) c.push_digits.ensures.text
           ∙ append_assoc before front (b ∷ [])
           ∙ ap (λ ds. before ++ ds) (sym d);
-      longer = omega (arith, ap length d, length_push front b, c.push-2.ensures.longer, c.push-digits.ensures.longer);
+      longer = omega (arith, ap length d, length_push front b, c.push-2.ensures.longer, c.push_digits.ensures.longer);
     }

@@ -10,4 +10,4 @@ push_digits-requires c =
 pub returns : goal.returns
 returns c =
     let few : length (decimal c.args.n) ≤ 10 = length-decimal-le 10 c.args.n (omega arith) (omega arith) (omega arith) in
-    record { text = c.push-digits.ensures.text; longer = omega arith }
+    record { text = c.push_digits.ensures.text; longer = omega arith }

@@ -6,11 +6,11 @@ use Rattle.moments.proofs.ranks.Rank.serve.Goals as goal
 
 pub loop-i-preserved : goal.loop-i-preserved
 loop-i-preserved c = (
-  omega (arith, c.loop-i.invariant.0, c.serve-event-n.ensures.most),
-  c.serve-event-n.ensures.sound-a,
-  c.serve-event-n.ensures.sound-b,
+  omega (arith, c.loop-i.invariant.0, c.serve_event-n.ensures.most),
+  c.serve_event-n.ensures.sound_a,
+  c.serve_event-n.ensures.sound_b,
   pass_turn (serve_one c.args.self) (serving c.args.from c.args.a.now c.args.b.now) (serving c.loop-i.n c.loop-i.a c.loop-i.b) c.args.events.now c.loop-i.events c.loop-i.i _ _ _
-      (omega arith) c.serve-event-n.ensures.turn c.loop-i.invariant.3,
+      (omega arith) c.serve_event-n.ensures.turn c.loop-i.invariant.3,
 )
 
 pub returns : goal.returns

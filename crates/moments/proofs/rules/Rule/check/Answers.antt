@@ -9,7 +9,7 @@ use Rattle.moments.proofs.rules.Rule.check.Goals as goal
 zeros : Event
 zeros = record { end = 0; kind = 0; address = 0; value = 0; served = 0 }
 
-pub returns-then-is-broken : goal.returns-then-is-broken
+pub returns-then-is_broken : goal.returns-then-is_broken
 unfolding zeros first_broken checked
 returns-then-is-broken c =
     let k = c.args.self in
@@ -18,7 +18,7 @@ returns-then-is-broken c =
     let vs = c.args.events.now in
     let inside : i < length vs = omega arith in
     let v = get_or vs i zeros in
-    let hit : breaks k s v ≡ true = sym c.is-broken.ensures ∙ c.if-is-broken.true in
+    let hit : breaks k s v ≡ true = sym c.is_broken.ensures ∙ c.if-is_broken.true in
     let found = sym c.loop-i.invariant ∙ at_drop_more (first_broken k s i) vs i zeros inside
     ∙ ap (λ b. cond b (Some i) (first_broken k (barred_by k s v) (i + 1) (drop (i + 1) vs))) hit in
     ap Err c.refusal.ensures
@@ -33,8 +33,8 @@ loop-i-preserved c =
     let s = c.loop-i.barred in
     let vs = c.args.events.now in
     let v = get_or vs i zeros in
-    let missed : breaks k s v ≡ false = sym c.is-broken.ensures ∙ c.if-is-broken.false in
-    ap (λ t. first_broken k t (i + 1) (drop (i + 1) vs)) c.barred-by-barred.ensures
+    let missed : breaks k s v ≡ false = sym c.is_broken.ensures ∙ c.if-is_broken.false in
+    ap (λ t. first_broken k t (i + 1) (drop (i + 1) vs)) c.barred_by-barred.ensures
     ∙ sym (at_drop_more (first_broken k s i) vs i zeros (omega arith)
     ∙ ap (λ b. cond b (Some i) (first_broken k (barred_by k s v) (i + 1) (drop (i + 1) vs))) missed)
     ∙ c.loop-i.invariant

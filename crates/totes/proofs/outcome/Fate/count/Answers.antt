@@ -6,11 +6,11 @@ use Rattle.totes.proofs.outcome.Fate.count.Goals as goal
 
 pub loop-i-preserved : goal.loop-i-preserved
 loop-i-preserved c = (
-  omega (arith, c.loop-i.invariant.0, c.one-if-n.ensures.bound),
+  omega (arith, c.loop-i.invariant.0, c.one_if-n.ensures.bound),
   omega (
     arith,
     c.loop-i.invariant.1,
-    c.one-if-n.ensures.value,
+    c.one_if-n.ensures.value,
     at_drop_more (count_fate c.args.self) c.args.labels.now c.loop-i.i Whole c.loop-i-test.true,
   ),
 )
