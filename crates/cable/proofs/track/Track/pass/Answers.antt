@@ -18,6 +18,6 @@ returns c =
     let x = c.args.pair in
     let some : 0 < length ps = omega arith in
     record {
-      hands = c.inverted-if.ensures ∙ ap (λ b. cond b (inverted x) x) c.is-due-due.ensures ∙ strike_hands e ps x some t.ahead;
-      leaves = ap (flipped (e + 1)) (c.after.ensures ∙ ap (λ b. cond b (drop 1 ps) ps) c.is-due-due.ensures) ∙ strike_leaves e ps x some t.ahead;
+      hands = c.inverted_if.ensures ∙ ap (λ b. cond b (inverted x) x) c.is_due-due.ensures ∙ strike_hands e ps x some t.ahead;
+      leaves = ap (flipped (e + 1)) (c.after.ensures ∙ ap (λ b. cond b (drop 1 ps) ps) c.is_due-due.ensures) ∙ strike_leaves e ps x some t.ahead;
     }
