@@ -21,7 +21,7 @@ impl<C: Cable> Bench<C> {
     // One φ clock: the cable steps once each way with the lines that stand, and each chip is handed what comes out at its end.
     pub(crate) fn clock_once(&mut self)
         requires { self.old.clock < last_clock }
-        ensures { bench_of meaning self.new ≡ clocked (bench_of meaning self.old) }
+        ensures { bench_of C.meaning self.new ≡ clocked (bench_of C.meaning self.old) }
     {
         let to_b = self.cable.step(Direction::TowardB, sent_by(&self.a));
         let to_a = self.cable.step(Direction::TowardA, sent_by(&self.b));
@@ -33,7 +33,7 @@ impl<C: Cable> Bench<C> {
     // Moments without events, one after the other.
     fn run_on(&mut self, n: u32)
         requires { self.old.clock + n ≤ last_clock }
-        ensures { bench_of meaning self.new ≡ moves n (bench_of meaning self.old) }
+        ensures { bench_of C.meaning self.new ≡ moves n (bench_of C.meaning self.old) }
     {
         for i in 0..n {
             self.clock_once();
@@ -42,8 +42,8 @@ impl<C: Cable> Bench<C> {
 
     /// Moments without events, all of them or none. Refused by causes 5, 9 and 10.
     pub fn moments(&mut self, n: u32) -> Result<(), Fault>
-        ensures answer { result ≡ moments_reply n (bench_of meaning self.old) }
-        ensures state { bench_of meaning self.new ≡ moments_done n (bench_of meaning self.old) }
+        ensures answer { result ≡ moments_reply n (bench_of C.meaning self.old) }
+        ensures state { bench_of C.meaning self.new ≡ moments_done n (bench_of C.meaning self.old) }
     {
         if n > 100000 {
             return Err(Fault::unplaced(Cause::OutOfRange));

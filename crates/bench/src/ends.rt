@@ -45,8 +45,8 @@ fn span_fits(address: u32, count: u32) -> bool
 impl<C: Cable> Bench<C> {
     // The chips' own calls, which refuse without a place.
     fn load_at(&mut self, end: End, character: u8) -> Result<(), Cause>
-        ensures answer { result ≡ load_answer (chip end (bench_of meaning self.old)) }
-        ensures state { bench_of meaning self.new ≡ with_chip end (load_of character (chip end (bench_of meaning self.old))) (bench_of meaning self.old) }
+        ensures answer { result ≡ load_answer (chip end (bench_of C.meaning self.old)) }
+        ensures state { bench_of C.meaning self.new ≡ with_chip end (load_of character (chip end (bench_of C.meaning self.old))) (bench_of C.meaning self.old) }
     {
         match end {
             End::A => self.a.load(character),
@@ -55,8 +55,8 @@ impl<C: Cable> Bench<C> {
     }
 
     fn take_at(&mut self, end: End) -> Result<Received, Cause>
-        ensures answer { result ≡ take_answer (chip end (bench_of meaning self.old)) }
-        ensures state { bench_of meaning self.new ≡ with_chip end (take_of (chip end (bench_of meaning self.old))) (bench_of meaning self.old) }
+        ensures answer { result ≡ take_answer (chip end (bench_of C.meaning self.old)) }
+        ensures state { bench_of C.meaning self.new ≡ with_chip end (take_of (chip end (bench_of C.meaning self.old))) (bench_of C.meaning self.old) }
     {
         match end {
             End::A => self.a.take(),
@@ -65,8 +65,8 @@ impl<C: Cable> Bench<C> {
     }
 
     fn put_at(&mut self, end: End, address: u8, count: u8, value: u16) -> Result<(), Cause>
-        ensures answer { result ≡ put_answer (chip end (bench_of meaning self.old)) }
-        ensures state { bench_of meaning self.new ≡ with_chip end (put_of address count value (chip end (bench_of meaning self.old))) (bench_of meaning self.old) }
+        ensures answer { result ≡ put_answer (chip end (bench_of C.meaning self.old)) }
+        ensures state { bench_of C.meaning self.new ≡ with_chip end (put_of address count value (chip end (bench_of C.meaning self.old))) (bench_of C.meaning self.old) }
     {
         match end {
             End::A => self.a.put(address, count, value),
@@ -75,7 +75,7 @@ impl<C: Cable> Bench<C> {
     }
 
     fn get_at(&self, end: End, address: u8, count: u8) -> Result<u16, Cause>
-        ensures { result ≡ get_answer address count (chip end (bench_of meaning self.now)) }
+        ensures { result ≡ get_answer address count (chip end (bench_of C.meaning self.now)) }
     {
         match end {
             End::A => self.a.get(address, count),
@@ -85,7 +85,7 @@ impl<C: Cable> Bench<C> {
 
     // The end that a host names, if its other numbers fit and the bench is open: causes 4, 5 and 9.
     fn admit(&self, end: u32, fits: bool) -> Result<End, Fault>
-        ensures answer { result ≡ admitted (end_of end) fits (bench_of meaning self.now) }
+        ensures answer { result ≡ admitted (end_of end) fits (bench_of C.meaning self.now) }
         ensures fits { OnOk result (fits ≡ true) }
     {
         let Some(end) = end_of(end) else {
@@ -101,8 +101,8 @@ impl<C: Cable> Bench<C> {
     }
 
     fn try_load(&mut self, end: u32, character: u32) -> Result<(), Fault>
-        ensures answer { result ≡ asked_by (end_of end) (nat_le character 255) load_answer (bench_of meaning self.old) }
-        ensures state { bench_of meaning self.new ≡ changed_by (end_of end) (nat_le character 255) (load_of character) (bench_of meaning self.old) }
+        ensures answer { result ≡ asked_by (end_of end) (nat_le character 255) load_answer (bench_of C.meaning self.old) }
+        ensures state { bench_of C.meaning self.new ≡ changed_by (end_of end) (nat_le character 255) (load_of character) (bench_of C.meaning self.old) }
     {
         let end = self.admit(end, character <= 255)?;
         at_end(end, self.load_at(end, character as u8))?;
@@ -110,8 +110,8 @@ impl<C: Cable> Bench<C> {
     }
 
     fn try_take(&mut self, end: u32) -> Result<Received, Fault>
-        ensures answer { result ≡ asked_by (end_of end) true take_answer (bench_of meaning self.old) }
-        ensures state { bench_of meaning self.new ≡ changed_by (end_of end) true take_of (bench_of meaning self.old) }
+        ensures answer { result ≡ asked_by (end_of end) true take_answer (bench_of C.meaning self.old) }
+        ensures state { bench_of C.meaning self.new ≡ changed_by (end_of end) true take_of (bench_of C.meaning self.old) }
     {
         let end = self.admit(end, true)?;
         let received = at_end(end, self.take_at(end))?;
@@ -119,8 +119,8 @@ impl<C: Cable> Bench<C> {
     }
 
     fn try_put(&mut self, end: u32, address: u32, count: u32, value: u32) -> Result<(), Fault>
-        ensures answer { result ≡ asked_by (end_of end) (span_fits address count && nat_le value 65535) put_answer (bench_of meaning self.old) }
-        ensures state { bench_of meaning self.new ≡ changed_by (end_of end) (span_fits address count && nat_le value 65535) (put_of address count value) (bench_of meaning self.old) }
+        ensures answer { result ≡ asked_by (end_of end) (span_fits address count && nat_le value 65535) put_answer (bench_of C.meaning self.old) }
+        ensures state { bench_of C.meaning self.new ≡ changed_by (end_of end) (span_fits address count && nat_le value 65535) (put_of address count value) (bench_of C.meaning self.old) }
     {
         let end = self.admit(end, span_fits(address, count) && value <= 65535)?;
         at_end(
@@ -131,7 +131,7 @@ impl<C: Cable> Bench<C> {
     }
 
     fn try_get(&self, end: u32, address: u32, count: u32) -> Result<u16, Fault>
-        ensures { result ≡ asked_by (end_of end) (span_fits address count) (get_answer address count) (bench_of meaning self.now) }
+        ensures { result ≡ asked_by (end_of end) (span_fits address count) (get_answer address count) (bench_of C.meaning self.now) }
     {
         let end = self.admit(end, span_fits(address, count))?;
         let bits = at_end(end, self.get_at(end, address as u8, count as u8))?;
@@ -140,31 +140,31 @@ impl<C: Cable> Bench<C> {
 
     /// Loads a character into the transmit buffer of an end. Refused by causes 4, 5, 9, 11, 12 and 13.
     pub fn load(&mut self, end: u32, character: u32) -> Result<(), Fault>
-        ensures answer { result ≡ load_reply end character (bench_of meaning self.old) }
-        ensures state { bench_of meaning self.new ≡ load_done end character (bench_of meaning self.old) }
+        ensures answer { result ≡ load_reply end character (bench_of C.meaning self.old) }
+        ensures state { bench_of C.meaning self.new ≡ load_done end character (bench_of C.meaning self.old) }
     {
         self.try_load(end, character)
     }
 
     /// Takes the received character of an end with its flags. Refused by causes 4, 9, 11 and 14.
     pub fn take(&mut self, end: u32) -> Result<Received, Fault>
-        ensures answer { result ≡ take_reply end (bench_of meaning self.old) }
-        ensures state { bench_of meaning self.new ≡ take_done end (bench_of meaning self.old) }
+        ensures answer { result ≡ take_reply end (bench_of C.meaning self.old) }
+        ensures state { bench_of C.meaning self.new ≡ take_done end (bench_of C.meaning self.old) }
     {
         self.try_take(end)
     }
 
     /// Writes the low bits of a number to output bits of an end, upward from an address, lowest first. Refused by causes 4, 5, 9 and 11.
     pub fn put(&mut self, end: u32, address: u32, count: u32, value: u32) -> Result<(), Fault>
-        ensures answer { result ≡ put_reply end address count value (bench_of meaning self.old) }
-        ensures state { bench_of meaning self.new ≡ put_done end address count value (bench_of meaning self.old) }
+        ensures answer { result ≡ put_reply end address count value (bench_of C.meaning self.old) }
+        ensures state { bench_of C.meaning self.new ≡ put_done end address count value (bench_of C.meaning self.old) }
     {
         self.try_put(end, address, count, value)
     }
 
     /// Reads input bits of an end, upward from an address, lowest first. Refused by causes 4, 5, 9 and 11.
     pub fn get(&self, end: u32, address: u32, count: u32) -> Result<u16, Fault>
-        ensures { result ≡ get_reply end address count (bench_of meaning self.now) }
+        ensures { result ≡ get_reply end address count (bench_of C.meaning self.now) }
     {
         self.try_get(end, address, count)
     }

@@ -18,7 +18,7 @@ impl<C: Cable> Bench<C> {
     fn serve(&mut self, events: &mut [Event])
         requires few { length events.old ≤ 32 }
         requires early { self.old.clock < last_clock }
-        ensures state { bench_of meaning self.new ≡ ranks_served events.old (bench_of meaning self.old) }
+        ensures state { bench_of C.meaning self.new ≡ ranks_served events.old (bench_of C.meaning self.old) }
         ensures list { events.new ≡ list_served events.old }
     {
         let next = Rank::DsrSettings.serve(&mut self.a, &mut self.b, events, 1);
@@ -29,7 +29,7 @@ impl<C: Cable> Bench<C> {
 
     // Causes 9 and 10 of a moment.
     fn check_ready(&self) -> Result<(), Fault>
-        ensures answer { result ≡ ready (bench_of meaning self.now) }
+        ensures answer { result ≡ ready (bench_of C.meaning self.now) }
         ensures early { OnOk result (self.now.clock < last_clock) }
     {
         if !self.is_open {
@@ -43,7 +43,7 @@ impl<C: Cable> Bench<C> {
 
     // The ends that still recover once this clock has lowered their counts: a write at them is refused.
     fn recoveries(&self) -> Barred
-        ensures { result ≡ recoveries (bench_of meaning self.now) }
+        ensures { result ≡ recoveries (bench_of C.meaning self.now) }
     {
         Barred {
             a: self.a.recovery.0 > 1,
@@ -53,7 +53,7 @@ impl<C: Cable> Bench<C> {
 
     // Everything that refuses a moment is asked before anything changes.
     fn check(&self, events: &[Event]) -> Result<(), Fault>
-        ensures answer { result ≡ moment_checked events.now (bench_of meaning self.now) }
+        ensures answer { result ≡ moment_checked events.now (bench_of C.meaning self.now) }
         ensures few { OnOk result (length events.now ≤ 32) }
         ensures early { OnOk result (self.now.clock < last_clock) }
     {
@@ -63,8 +63,8 @@ impl<C: Cable> Bench<C> {
     }
 
     fn try_moment(&mut self, events: &mut [Event]) -> Result<(), Fault>
-        ensures answer { result ≡ moment_checked events.old (bench_of meaning self.old) }
-        ensures state { bench_of meaning self.new ≡ after_call result (ranks_served events.old (bench_of meaning self.old)) (bench_of meaning self.old) }
+        ensures answer { result ≡ moment_checked events.old (bench_of C.meaning self.old) }
+        ensures state { bench_of C.meaning self.new ≡ after_call result (ranks_served events.old (bench_of C.meaning self.old)) (bench_of C.meaning self.old) }
         ensures list { events.new ≡ list_left result (list_served events.old) events.old }
     {
         self.check(events)?;
@@ -77,10 +77,10 @@ impl<C: Cable> Bench<C> {
     ///
     /// The receivers are served before the writes, so a write cannot hide an overrun of this very clock.
     pub fn moment(&mut self, events: &mut [Event]) -> Result<(), Fault>
-        ensures answer { result ≡ moment_reply events.old (bench_of meaning self.old) }
-        ensures state { bench_of meaning self.new ≡ moment_done events.old (bench_of meaning self.old) }
+        ensures answer { result ≡ moment_reply events.old (bench_of C.meaning self.old) }
+        ensures state { bench_of C.meaning self.new ≡ moment_done events.old (bench_of C.meaning self.old) }
         ensures list { events.new ≡ list_after result events.old }
-        ensures overruns { is_ok result ≡ true → OverrunsShow events.old (bench_of meaning self.old) (bench_of meaning self.new) }
+        ensures overruns { is_ok result ≡ true → OverrunsShow events.old (bench_of C.meaning self.old) (bench_of C.meaning self.new) }
     {
         self.try_moment(events)
     }

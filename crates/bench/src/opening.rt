@@ -35,7 +35,7 @@ fn registers(control: u32, interval: u32, send: u32, receive: u32) -> Registers
 impl<C: Cable> Bench<C> {
     /// A bench that is not open yet.
     pub fn new(cable: C) -> Bench<C>
-        ensures { bench_of meaning result ≡ unopened (meaning cable) }
+        ensures { bench_of C.meaning result ≡ unopened (C.meaning cable) }
     {
         let chip = Acc::opened(Registers {
             control: 0,
@@ -79,9 +79,9 @@ impl<C: Cable> Bench<C> {
         r: u32,
         interval: u32,
     ) -> Result<(), Fault>
-        ensures answer { result ≡ open_answer (opening start control x r interval) (bench_of meaning self.old) }
-        ensures state { bench_of meaning self.new ≡ open_of (opening start control x r interval) (bench_of meaning self.old) }
-        ensures transmits { is_ok result ≡ true → Transmits (opening start control x r interval) (bench_of meaning self.new) }
+        ensures answer { result ≡ open_answer (opening start control x r interval) (bench_of C.meaning self.old) }
+        ensures state { bench_of C.meaning self.new ≡ open_of (opening start control x r interval) (bench_of C.meaning self.old) }
+        ensures transmits { is_ok result ≡ true → Transmits (opening start control x r interval) (bench_of C.meaning self.new) }
     {
         self.try_open(start, control, x, r, interval)
     }
@@ -94,8 +94,8 @@ impl<C: Cable> Bench<C> {
         r: u32,
         interval: u32,
     ) -> Result<(), Fault>
-        ensures answer { result ≡ open_answer (opening start control x r interval) (bench_of meaning self.old) }
-        ensures state { bench_of meaning self.new ≡ open_of (opening start control x r interval) (bench_of meaning self.old) }
+        ensures answer { result ≡ open_answer (opening start control x r interval) (bench_of C.meaning self.old) }
+        ensures state { bench_of C.meaning self.new ≡ open_of (opening start control x r interval) (bench_of C.meaning self.old) }
     {
         if !opening_fits(start, control, x, r, interval) {
             return Err(Fault::unplaced(Cause::OutOfRange));

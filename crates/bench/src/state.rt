@@ -12,7 +12,7 @@ use faults::End;
 impl<C: Cable> Bench<C> {
     /// The pins of an end that others see.
     pub fn pins(&self, end: End) -> Pins
-        ensures { result ≡ pins_of (chip end (bench_of meaning self.now)) }
+        ensures { result ≡ pins_of (chip end (bench_of C.meaning self.now)) }
     {
         match end {
             End::A => self.a.pins(),
@@ -22,14 +22,14 @@ impl<C: Cable> Bench<C> {
 
     /// The clock of the bench.
     pub fn clock(&self) -> u32
-        ensures { result ≡ (bench_of meaning self.now).clock }
+        ensures { result ≡ (bench_of C.meaning self.now).clock }
     {
         self.clock
     }
 
     /// Whether the bench was opened.
     pub fn is_open(&self) -> bool
-        ensures { result ≡ (bench_of meaning self.now).is_open }
+        ensures { result ≡ (bench_of C.meaning self.now).is_open }
     {
         self.is_open
     }

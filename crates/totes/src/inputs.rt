@@ -32,7 +32,7 @@ pub(crate) fn is_set(bits: u16, k: u32) -> bool
 
 /// One input bit of an end.
 pub(crate) fn input<C: Cable>(bench: &Bench<C>, end: End, address: u32) -> Result<bool, Fault>
-    ensures { result ≡ is_one (get_reply (end_number end) address 1 (bench_of meaning bench.now)) }
+    ensures { result ≡ is_one (get_reply (end_number end) address 1 (bench_of C.meaning bench.now)) }
 {
     let bits = bench.get(end.number(), address, 1)?;
     Ok(bits == 1)

@@ -37,7 +37,7 @@ fn have_moment<C: Cable>(bench: &mut Bench<C>, acknowledged: bool) -> Result<(),
 /// Runs twenty totes at an interval, over a new cable, and counts what came of their labels. Refused by cause 5 for an interval above
 /// 80,000,000, with which the moments could pass the last clock.
 pub fn run<C: Cable + Drop>(cable: C, case: Case, interval: u32) -> Result<Tally, Fault>
-    ensures moments { IfOk result (λ t. t.moments ≡ moments_of_run case interval (delay_of (channel TowardB (meaning cable)))) }
+    ensures moments { IfOk result (λ t. t.moments ≡ moments_of_run case interval (delay_of (channel TowardB (C.meaning cable)))) }
     ensures labels { IfOk result (λ t. t.whole + t.lost + t.damaged ≡ 20) }
     ensures told { IfOk result (λ t. is_some t.first_loss ≡ nat_lt 0 t.lost) }
 {

@@ -5,7 +5,7 @@ use Rattle.lines.specs.Format.{digits_from, goes_on}
 use Rattle.lines.proofs.reading.read_digits.Goals as goal
 
 pub returns-then-not-goes_on : goal.returns-then-not-goes_on
-returns-then-not-goes-on c =
+returns-then-not-goes_on c =
     let i = c.loop-i.i in
     let v = c.loop-i.value in
     let xs = c.args.text.now in

@@ -21,8 +21,8 @@ push_digits-requires t c =
     let d = ap length (decimal_step c.args.n (omega arith) (omega arith)) ∙ length_push (decimal (c.args.n / 10)) (48 + c.args.n % 10) in
     (search rules, omega (arith, d, c.requires))
 
-pub push_requires_2 : goal.push_requires_2
-push_requires_2 t c =
+pub push-requires-2 : goal.push-requires-2
+push-requires-2 t c =
     let d = ap length (decimal_step c.args.n (omega arith) (omega arith)) ∙ length_push (decimal (c.args.n / 10)) (48 + c.args.n % 10) in
     omega (arith, d, c.requires, c.push_digits.ensures.longer)
 

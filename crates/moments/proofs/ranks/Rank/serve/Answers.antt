@@ -26,6 +26,6 @@ returns c =
       list = pass_list (serve_one k) s0 s vs c.loop-i.events c.loop-i.i (omega arith) (omega arith) c.loop-i.invariant.3 ∙ items_numbered k s0 vs;
       next = ap (λ (t : Serving). t.number) whole ∙ number_passed k s0 vs;
       most = omega (arith, c.loop-i.invariant.0);
-      sound-a = c.loop-i.invariant.1;
-      sound-b = c.loop-i.invariant.2;
+      sound_a = c.loop-i.invariant.1;
+      sound_b = c.loop-i.invariant.2;
     }

@@ -11,7 +11,7 @@ zeros = record { end = 0; kind = 0; address = 0; value = 0; served = 0 }
 
 pub returns-then-is_broken : goal.returns-then-is_broken
 unfolding zeros first_broken checked
-returns-then-is-broken c =
+returns-then-is_broken c =
     let k = c.args.self in
     let i = c.loop-i.i in
     let s = c.loop-i.barred in
