@@ -187,10 +187,10 @@ fn a_script_answers_into_a_buffer(rt: HostRuntime) {
     assert_eq!(rt; told(script.answer_line(b"T 1", &mut short)), (5, 0, 2));
     let mut buffer = [7u8; 66];
     assert_eq!(rt; script.answer_line(b"T 1\n", &mut buffer).unwrap_or(0), 10);
-    assert_eq!(rt; &buffer[..12], b"? 1 0 1 9\n\x07\x07");
+    assert_eq!(rt; &buffer[..12], b"? 1 0 1 9\n\x07\x07".as_slice());
     assert_eq!(rt;
         script.answer_line(b"O 131 1 1 0", &mut buffer).unwrap_or(0),
         3
     );
-    assert_eq!(rt; &buffer[..12], b"ok\n 0 1 9\n\x07\x07");
+    assert_eq!(rt; &buffer[..12], b"ok\n 0 1 9\n\x07\x07".as_slice());
 }
