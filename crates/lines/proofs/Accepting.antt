@@ -1,13 +1,12 @@
 -- The text of a command is accepted, and read as that command. Assumes nothing.
-use Rattle.std.proofs.Common.{◌≡◌, ℕ, zero, suc, ◌+◌, ◌-◌, ◌*◌, ◌/◌, ◌%◌, ◌^◌, ◌<◌, ◌≤◌, Bool, true, false, cond, not, ◌&&◌, eqb, ltb, leb, List, [], ◌∷◌, ◌++◌, length, get_or, take, drop, Ok, Err, decimal, Result, sym, refl, ap, ◌∙◌, subst, append_assoc, arith}
+use Rattle.std.proofs.Common.{◌≡◌, ℕ, ◌+◌, ◌-◌, ◌*◌, ◌/◌, ◌%◌, ◌<◌, ◌≤◌, Bool, true, false, cond, not, ◌&&◌, eqb, ltb, leb, List, [], ◌∷◌, ◌++◌, length, get_or, take, drop, Ok, Err, decimal, sym, refl, ap, ◌∙◌, append_assoc, arith}
 use Rattle.std.proofs.lemmas.Fmt.{decimal_digit, decimal_by_steps, decimal_nonempty, first_decimal, length-decimal-le}
 use Rattle.std.proofs.lemmas.List.{append-nil, length-append, length_push, drop_at, take_at, take_all, get_or_at, get_or_push, get_or-append-add, get_or_append_left}
 use Rattle.std.proofs.lemmas.Bool.Decides.{nat_tests}
-use Rattle.faults.specs.declared.Cause.{Cause}
 use Rattle.faults.specs.declared.Cause.TheVariants.{LineTooLong, BadFields}
 use Rattle.lines.specs.declared.command.Command.{Command}
 use Rattle.lines.specs.declared.command.Command.TheVariants.{Open, Moments, Put, Get, Load, Take}
-use Rattle.lines.specs.Format.{then, largest, is_digit, goes_on, digits_from, opens_field, in_range, field, one, two, three, four, command_in, command_of, text_length, text_of_line, parsed}
+use Rattle.lines.specs.Format.{then, largest, is_digit, goes_on, digits_from, opens_field, in_range, field, one, two, three, four, command_in, command_of, text_of_line}
 use Rattle.lines.specs.Texts.{with_field, with_fields, command_text, command_values}
 use Rattle.lines.specs.Accepted.{AllSmall, CommandsAccepted}
 

@@ -1,11 +1,10 @@
 -- A line that is accepted is the text of its command. Assumes nothing.
-use Rattle.std.proofs.Common.{◌≡◌, ℕ, ◌<◌, ◌≤◌, Bool, true, false, cond, eqb, ltb, List, [], ◌∷◌, ◌++◌, length, get_or, take, Ok, Err, Result, sym, refl, ap, ◌∙◌, subst, arith}
+use Rattle.std.proofs.Common.{◌≡◌, ℕ, ◌<◌, ◌≤◌, Bool, true, false, cond, eqb, ltb, List, [], ◌∷◌, length, get_or, take, Ok, Err, Result, sym, refl, ap, ◌∙◌, subst, arith}
 use Rattle.std.proofs.lemmas.List.{take_all, take_more}
 use Rattle.std.proofs.lemmas.Bool.Decides.{nat_tests}
 use Rattle.faults.specs.declared.Cause.{Cause}
-use Rattle.faults.specs.declared.Cause.TheVariants.{LineTooLong, BadFields}
+use Rattle.faults.specs.declared.Cause.TheVariants.{BadFields}
 use Rattle.lines.specs.declared.command.Command.{Command}
-use Rattle.lines.specs.declared.command.Command.TheVariants.{Open, Moments, Put, Get, Load, Take}
 use Rattle.lines.specs.Format.{then, field, one, two, three, four, command_in, command_of, text_of_line, parsed}
 use Rattle.lines.specs.Texts.{with_field, with_fields, command_text}
 use Rattle.lines.specs.Accepted.{ItsText}

@@ -1,5 +1,5 @@
 -- A pass that serves one rank does what the definitions of a moment say. Assumes nothing.
-use Rattle.std.proofs.Common.{◌≡◌, ℕ, ◌+◌, Bool, true, false, cond, ◌&&◌, List, [], ◌∷◌, sym, refl, ap, ◌∙◌, add-zero, add_assoc}
+use Rattle.std.proofs.Common.{◌≡◌, ◌+◌, Bool, true, false, cond, ◌&&◌, List, [], ◌∷◌, sym, refl, ap, ◌∙◌, add-zero, add_assoc}
 use Rattle.faults.specs.declared.End.{End}
 use Rattle.faults.specs.declared.End.TheVariants as end
 use Rattle.acc.specs.declared.chip.Acc.{Acc}

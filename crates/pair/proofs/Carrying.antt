@@ -1,8 +1,8 @@
 -- What a channel carries: each waiting pair stands for something that was sent, and its data level is what was sent, turned over as often as
 -- its count says. Assumes nothing.
-use Rattle.std.proofs.Common.{◌≡◌, ℕ, zero, suc, ◌+◌, ◌%◌, ◌<◌, Bool, true, false, cond, not, eqb, List, [], ◌∷◌, ◌++◌, length, sym, refl, ap, ◌∙◌, arith}
-use Rattle.std.proofs.lemmas.Bool.{cond_both, eq-eqb, ne_eqb, eqb-true, eqb-false}
-use Rattle.cable.specs.Channels.{Pair, Flip, Channel, inverted, invert_at, due, struck, remaining, front, behind, entered, handed, stepped}
+use Rattle.std.proofs.Common.{◌≡◌, ℕ, zero, suc, ◌%◌, Bool, true, false, cond, not, eqb, List, [], ◌∷◌, ◌++◌, length, sym, refl, ap, ◌∙◌, arith}
+use Rattle.std.proofs.lemmas.Bool.{eq-eqb, ne_eqb, eqb-true, eqb-false}
+use Rattle.cable.specs.Channels.{Pair, Flip, Channel, invert_at, due, struck, front, behind, handed, stepped}
 use Rattle.cable.specs.Passing.{turned}
 use Rattle.cable.specs.Turnings.{change_at, changed_by, first_of_list, behind_first, counts_entered, count_handed, odd}
 

@@ -1,5 +1,5 @@
 -- A character that is made of inverted samples of a word is a copy of its character. Assumes nothing.
-use Rattle.std.proofs.Common.{◌≡◌, ℕ, zero, suc, ◌+◌, ◌%◌, ◌^◌, ◌<◌, ◌≤◌, Bool, true, false, cond, not, ◌&&◌, List, [], ◌∷◌, ◌++◌, map, length, get_or, sym, refl, ap, ◌∙◌, mod-eq_of_lt, add-one, arith}
+use Rattle.std.proofs.Common.{◌≡◌, ℕ, suc, ◌+◌, ◌%◌, ◌^◌, ◌<◌, ◌≤◌, Bool, true, false, not, ◌&&◌, List, map, length, get_or, sym, refl, ap, ◌∙◌, mod-eq_of_lt, add-one, arith}
 use Rattle.std.proofs.lemmas.List.{length-map, get_or-map}
 use Rattle.timing.specs.declared.registers.CharacterLength.{CharacterLength}
 use Rattle.timing.specs.declared.registers.CharacterLength.TheVariants.{Five, Six, Seven, Eight}

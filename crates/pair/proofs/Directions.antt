@@ -1,5 +1,5 @@
 -- What calls do to a run, and to each of its two directions. Assumes nothing.
-use Rattle.std.proofs.Common.{◌≡◌, ℕ, zero, suc, ◌+◌, ◌-◌, ◌*◌, ◌<◌, ◌≤◌, Bool, true, false, cond, not, ◌&&◌, ltb, leb, List, [], ◌∷◌, ◌++◌, length, is_ok, Some, Ok, Err, Result, sym, refl, ap, ◌∙◌, subst, arith}
+use Rattle.std.proofs.Common.{◌≡◌, ℕ, ◌+◌, Bool, true, false, cond, leb, List, ◌∷◌, is_ok, Some, Ok, Err, Result, sym, refl, ap, ◌∙◌, subst, arith}
 use Rattle.std.proofs.lemmas.Bool.{both_ways}
 use Rattle.faults.specs.declared.Cause.{Cause}
 use Rattle.faults.specs.declared.Cause.TheVariants.{Recovering, BufferNotEnabled, BufferFull, NothingReceived, NotOpen, OutOfRange}
@@ -7,30 +7,21 @@ use Rattle.faults.specs.declared.End.{End}
 use Rattle.faults.specs.declared.End.TheVariants as end
 use Rattle.faults.specs.declared.Fault.{Fault}
 use Rattle.faults.specs.Faults.{end_number}
-use Rattle.timing.specs.Registers.{control_of, half_count}
-use Rattle.sections.specs.declared.receiver.Receiver.{Receiver}
-use Rattle.sections.specs.declared.transmitter.Transmitter.{Transmitter}
-use Rattle.sections.specs.Receive.{rsbd, released, listen}
+use Rattle.sections.specs.Receive.{released}
 use Rattle.sections.specs.Transmit.{buffer_loaded}
-use Rattle.cable.specs.Channels.{Channel, Channels, handed, stepped}
 use Rattle.acc.specs.declared.chip.Acc.{Acc}
 use Rattle.acc.specs.declared.chip.Received.{Received}
-use Rattle.acc.specs.declared.chip.Registers.{Registers}
 use Rattle.acc.specs.Calls.{recovering, unless_refused, load_answer, load_of, take_answer, take_of, received_of}
-use Rattle.acc.specs.Clock.{fires, clock_of}
+use Rattle.acc.specs.Clock.{fires}
 use Rattle.acc.specs.Inputs.{flag}
 use Rattle.acc.specs.State.{with_transmitter, with_receiver}
 use Rattle.pair.specs.declared.event.Event.{Event}
-use Rattle.pair.specs.Bench.{Bench, chip, with_chip, at_place, sent_by}
-use Rattle.pair.specs.Calls.{after_call, asked, at_end, load_reply, load_done, take_reply, take_done, moment_reply, moment_done}
-use Rattle.pair.specs.Moment.{with_both, set_all, write_all, after_rank_2, moved}
-use Rattle.pair.specs.Runs.{Stored, Happening, taken, History, Run, Call, load, take, moment, history, with_history, clock_noted, noted, moment_noted, load_noted, take_noted, after, run}
-use Rattle.pair.specs.Copies.{stored_in, one_waits, Waits, OverrunTellsAnUntakenCharacter, TakeAnswersTheLastStoredOnce}
-use Rattle.pair.specs.Law.{opposite, channel_to, q_at}
-use Rattle.pair.proofs.Conditions.{WritesAllowedBits, FallsInsideACharacter, CallAllowed, CallsAllowed}
-use Rattle.pair.proofs.Link.{Boards, format, sent_half, heard_count, Link, due, advanced, rx_after, clocked, Inv, Told, Fit, Inside, clock_keeps}
-use Rattle.pair.proofs.Receiver.{held_by, Follows}
-use Rattle.pair.proofs.Ends.{Core, core, normal, kept_setting, set_core, set_rts, write_core, core_clock, clock_core}
+use Rattle.pair.specs.Bench.{Bench, chip, with_chip, at_place}
+use Rattle.pair.specs.Calls.{after_call, asked, at_end, load_reply, load_done, take_reply, take_done, moment_reply}
+use Rattle.pair.specs.Moment.{with_both, set_all, after_rank_2, moved}
+use Rattle.pair.specs.Runs.{taken, History, Run, Call, load, take, moment, history, with_history, clock_noted, noted, moment_noted, take_noted, after}
+use Rattle.pair.proofs.Conditions.{WritesAllowedBits, FallsInsideACharacter, CallAllowed}
+use Rattle.pair.proofs.Ends.{kept_setting}
 
 -- what a call did to a run
 abbrev pub loaded_run : End → ℕ → Run → Run

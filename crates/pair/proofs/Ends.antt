@@ -1,16 +1,14 @@
 -- What settings, allowed writes and clocks leave of a chip. Assumes nothing.
-use Rattle.std.proofs.Common.{◌≡◌, ℕ, ◌+◌, Bool, true, false, cond, not, ◌&&◌, ◌||◌, eqb, ◌⊎◌, List, [], ◌∷◌, sym, refl, ap, ◌∙◌, subst, inl, inr}
+use Rattle.std.proofs.Common.{◌≡◌, ℕ, Bool, true, false, cond, not, ◌&&◌, ◌||◌, eqb, ◌⊎◌, List, [], ◌∷◌, sym, refl, ap, ◌∙◌, subst, inl, inr}
 use Rattle.std.proofs.lemmas.Bool.{both_ways, eqb-true, or_cases}
 use Rattle.faults.specs.declared.End.{End}
 use Rattle.timing.specs.declared.counts.PhiCount.{PhiCount}
 use Rattle.timing.specs.Counts.{phi}
-use Rattle.timing.specs.Registers.{control_of}
 use Rattle.sections.specs.declared.receiver.Receiver.{Receiver}
 use Rattle.sections.specs.declared.transmitter.Transmitter.{Transmitter}
 use Rattle.sections.specs.Receive.{listen}
 use Rattle.sections.specs.Transmit.{send, xsre}
 use Rattle.acc.specs.declared.chip.Acc.{Acc}
-use Rattle.acc.specs.declared.chip.Lines.{Lines}
 use Rattle.acc.specs.declared.chip.Modes.{Modes}
 use Rattle.acc.specs.declared.chip.Registers.{Registers}
 use Rattle.acc.specs.Calls.{dsr_set}

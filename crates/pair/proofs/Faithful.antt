@@ -1,5 +1,5 @@
 -- The law of faithful transmission. Assumes nothing.
-use Rattle.std.proofs.Common.{◌≡◌, ℕ, zero, suc, ◌+◌, ◌-◌, ◌*◌, ◌<◌, ◌≤◌, Bool, true, false, cond, not, ◌&&◌, List, [], ◌∷◌, ◌++◌, length, is_ok, Some, Ok, Err, Result, sym, refl, ap, ◌∙◌, subst, mul-le-mul_right, mul-le-mul, add-one, arith}
+use Rattle.std.proofs.Common.{◌≡◌, ℕ, suc, ◌+◌, ◌-◌, ◌*◌, ◌<◌, ◌≤◌, Bool, true, false, cond, ◌&&◌, List, [], ◌∷◌, ◌++◌, length, is_ok, Some, Ok, Err, Result, sym, refl, ap, ◌∙◌, subst, mul-le-mul_right, mul-le-mul, arith}
 use Rattle.std.proofs.lemmas.Bool.{both_ways, and_from}
 use Rattle.faults.specs.declared.End.{End}
 use Rattle.faults.specs.declared.End.TheVariants as end
@@ -12,28 +12,26 @@ use Rattle.timing.proofs.HalfBits.{half_count_some}
 use Rattle.sections.specs.declared.transmitter.Sending.{Sending}
 use Rattle.sections.specs.declared.transmitter.Sending.TheVariants.{Idle, Element, Stop}
 use Rattle.sections.specs.Transmit.{xsre_by, xsre}
-use Rattle.cable.specs.Channels.{Channels, is_clear}
 use Rattle.cable.specs.Turnings.{is_inverted}
 use Rattle.acc.specs.declared.chip.Acc.{Acc}
-use Rattle.acc.specs.declared.chip.Modes.{Modes}
 use Rattle.acc.specs.declared.chip.Received.{Received}
 use Rattle.acc.specs.declared.chip.Registers.{Registers}
-use Rattle.acc.specs.Clock.{fires, clock_of}
+use Rattle.acc.specs.Clock.{fires}
 use Rattle.pair.specs.declared.event.Event.{Event}
 use Rattle.pair.specs.Bench.{Bench, chip}
 use Rattle.pair.specs.Calls.{Opening, opened, started, registers_of, load_reply, take_reply, moment_reply}
-use Rattle.pair.specs.Moment.{set_all, write_all, after_rank_2, moved}
-use Rattle.pair.specs.Runs.{Stored, Run, Call, load, take, moment, history, start_of, load_noted, take_noted, after, run}
+use Rattle.pair.specs.Moment.{set_all, after_rank_2, moved}
+use Rattle.pair.specs.Runs.{Run, Call, load, take, moment, history, start_of, load_noted, take_noted, after, run}
 use Rattle.pair.specs.Copies.{stored_in, nth, Copy}
 use Rattle.pair.specs.Consequences.{ALabelArrivesWhole}
-use Rattle.pair.specs.Law.{opposite, channel_to, sent_format, Faithful, cts_at_next_internal_clock, SentAtOnce, IsStored, LawAt, q_at, sent_half_bit, received_half_bit, Receives, deadline_between, TransmissionBetweenBoardsIsFaithful, rate_to, TransmissionIsFaithful}
+use Rattle.pair.specs.Law.{opposite, channel_to, sent_format, Faithful, cts_at_next_internal_clock, SentAtOnce, IsStored, LawAt, q_at, Receives, deadline_between, TransmissionBetweenBoardsIsFaithful, rate_to, TransmissionIsFaithful}
 use Rattle.pair.proofs.Conditions.{WritesAllowedBits, FallsInsideACharacter, CallAllowed, CallsAllowed, calls_are_allowed}
 use Rattle.pair.proofs.Carrying.{carries_length}
-use Rattle.pair.proofs.Link.{Boards, format, sent_half, heard_count, some_q, Link, due, clocked, level, Inv, Fit, Inside, clock_keeps}
-use Rattle.pair.proofs.InTime.{reach, Queued, Moving, Queues, Moves, length_left, queue_waits, queue_begins, moves_on, not_queued, stored_then, sent_moves}
-use Rattle.pair.proofs.Ends.{Core, core, normal, set_core, set_rts, write_rts, clock_cts, clock_rts}
+use Rattle.pair.proofs.Link.{Boards, format, heard_count, some_q, Link, due, clocked, level, Inv, Fit, clock_keeps}
+use Rattle.pair.proofs.InTime.{Queues, Moves, length_left, queue_waits, queue_begins, moves_on, not_queued, stored_then, sent_moves}
+use Rattle.pair.proofs.Ends.{Core, normal, set_core, set_rts, write_rts, clock_cts, clock_rts}
 use Rattle.pair.proofs.Directions.{loaded_run, taken_run, moved_run, Does, nothing, loads, takes, moves, does, load_empty, load_run, moment_after, moment_refused}
-use Rattle.pair.proofs.Steps.{link_to, boards_to, Steady, line_to, chip_ticked, chip_moved, ticked, link_moved, moved_inside, control_to, go_to, link_load, link_take, load_keeps, take_keeps, load_at, take_at, steady_step, steady_run, Kept, kept_step, kept_run, inv_kept, inv_opened, steady_opened}
+use Rattle.pair.proofs.Steps.{link_to, boards_to, Steady, line_to, chip_ticked, chip_moved, ticked, link_moved, moved_inside, control_to, go_to, link_load, link_take, load_keeps, take_keeps, load_at, take_at, steady_step, steady_run, Kept, kept_run, inv_kept, inv_opened, steady_opened}
 use Rattle.pair.proofs.InOrder.{Oldest, oldest_same, oldest_push, nth_there, nth_few, nth_oldest, nth_last, in_order}
 
 -- boards of which one receives what the other sends fit each other

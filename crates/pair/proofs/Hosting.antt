@@ -1,5 +1,5 @@
 -- The calls of a host are a run. Assumes nothing.
-use Rattle.std.proofs.Common.{◌≡◌, ℕ, ◌+◌, Bool, true, false, cond, eqb, leb, List, [], ◌∷◌, ◌++◌, replicate, is_ok, Some, None, Ok, Err, Option, Result, sym, refl, ap, ◌∙◌, subst}
+use Rattle.std.proofs.Common.{◌≡◌, ℕ, Bool, true, false, cond, eqb, List, [], ◌∷◌, replicate, is_ok, Some, None, Ok, Err, Result, sym, refl, ap, ◌∙◌, subst}
 use Rattle.std.proofs.lemmas.Bool.{both_ways, eqb-true}
 use Rattle.faults.specs.declared.End.{End}
 use Rattle.faults.specs.declared.End.TheVariants as end
@@ -8,8 +8,8 @@ use Rattle.faults.specs.Faults.{end_number}
 use Rattle.pair.specs.declared.event.Event.{Event}
 use Rattle.acc.specs.Calls.{load_of, take_of}
 use Rattle.acc.specs.declared.chip.Received.{Received}
-use Rattle.pair.specs.Bench.{Bench, end_of, with_chip}
-use Rattle.pair.specs.Calls.{after_call, asked, done_at, load_reply, load_done, take_reply, take_done, moves, moment_reply, moment_done, moments_reply, moments_done}
+use Rattle.pair.specs.Bench.{Bench, end_of}
+use Rattle.pair.specs.Calls.{after_call, done_at, load_reply, load_done, take_reply, take_done, moves, moment_reply, moment_done, moments_reply, moments_done}
 use Rattle.pair.specs.Moment.{moved}
 use Rattle.pair.specs.Runs.{Call, Run, take_noted, after, run}
 use Rattle.pair.specs.Runs as runs

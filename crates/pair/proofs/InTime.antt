@@ -1,7 +1,7 @@
 -- A character that waits to be sent and may go is stored in time. Assumes nothing.
-use Rattle.std.proofs.Common.{◌≡◌, ℕ, zero, suc, ◌+◌, ◌-◌, ◌*◌, ◌<◌, ◌≤◌, Bool, true, false, cond, not, ◌&&◌, leb, ◌⊎◌, List, [], ◌∷◌, ◌++◌, length, get_or, sym, refl, ap, ◌∙◌, subst, inl, inr, mul-le-mul_right, arith}
+use Rattle.std.proofs.Common.{◌≡◌, ℕ, zero, suc, ◌+◌, ◌-◌, ◌*◌, ◌<◌, ◌≤◌, Bool, true, false, not, ◌⊎◌, List, [], ◌∷◌, ◌++◌, length, get_or, sym, refl, ap, ◌∙◌, subst, inl, inr, mul-le-mul_right, arith}
 use Rattle.std.proofs.lemmas.List.{get_or_push, length_push, get_or_append_left, get_or_default}
-use Rattle.std.proofs.lemmas.Bool.{leb-true, both_ways, and_from, not_from_false}
+use Rattle.std.proofs.lemmas.Bool.{leb-true, and_from, not_from_false}
 use Rattle.timing.specs.declared.registers.Format.{Format}
 use Rattle.timing.specs.Registers.{samples, half_count}
 use Rattle.sections.specs.declared.receiver.Receiving.{Receiving}
@@ -14,7 +14,7 @@ use Rattle.pair.proofs.Carrying.{arriving, still_under_way}
 use Rattle.pair.proofs.Waves.{Tag, Ended, Next, on, fresh}
 use Rattle.pair.proofs.Sender.{starts, Sends, rests, sends, stops}
 use Rattle.pair.proofs.Receiver.{Matches, Follows, done, edge, begun, within}
-use Rattle.pair.proofs.Link.{Boards, format, stop, sent_half, heard_count, Link, due, clocked, level, Inv, Fit, Inside, clock_keeps, chain_arrives, onward, Onward}
+use Rattle.pair.proofs.Link.{Boards, format, stop, sent_half, heard_count, Link, due, clocked, level, Inv, Fit, Inside, clock_keeps, chain_arrives, onward}
 
 pub matches_length : (f : Format) (σ : ℕ → Bool) (ss : List Stored) (p : List ℕ) → Matches f σ ss p → length ss ≡ length p
 unfolding Matches

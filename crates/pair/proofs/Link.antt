@@ -1,5 +1,5 @@
 -- One direction of the bench: a transmitter, its channel, the receiver opposite, and what happened. Assumes nothing.
-use Rattle.std.proofs.Common.{◌≡◌, ℕ, zero, suc, ◌+◌, ◌-◌, ◌*◌, ◌^◌, ◌<◌, ◌≤◌, Bool, true, false, cond, not, ◌&&◌, ltb, leb, ◌⊎◌, List, [], ◌∷◌, ◌++◌, length, sym, refl, ap, ◌∙◌, subst, inl, inr, add-zero, mul-le-mul, add-one, arith}
+use Rattle.std.proofs.Common.{◌≡◌, ℕ, suc, ◌+◌, ◌*◌, ◌^◌, ◌<◌, ◌≤◌, Bool, true, false, cond, not, ◌&&◌, ltb, leb, ◌⊎◌, List, [], ◌∷◌, ◌++◌, sym, refl, ap, ◌∙◌, inl, inr, add-zero, add-one, arith}
 use Rattle.std.proofs.lemmas.Bool.{cases_lt, le-leb, lt-leb, both_ways}
 use Rattle.timing.specs.declared.counts.Divider.{Divider}
 use Rattle.timing.specs.declared.counts.Divider.TheVariants.{By3, By4}
@@ -11,11 +11,10 @@ use Rattle.timing.proofs.HalfBits.{half_count_some}
 use Rattle.sections.specs.declared.receiver.Receiving.{Receiving}
 use Rattle.sections.specs.declared.receiver.Receiving.TheVariants.{Idle, Half, Character}
 use Rattle.sections.specs.declared.receiver.Receiver.{Receiver}
-use Rattle.sections.specs.declared.transmitter.Sending.{Sending}
 use Rattle.sections.specs.declared.transmitter.Transmitter.{Transmitter}
-use Rattle.sections.specs.Receive.{rsbd, listen, heard, heard_character, in_state, stored}
+use Rattle.sections.specs.Receive.{rsbd, listen, heard, in_state, stored}
 use Rattle.sections.specs.Transmit.{send, runs_out, countdown, lowered}
-use Rattle.cable.specs.Channels.{Pair, Channel, remaining, handed, stepped}
+use Rattle.cable.specs.Channels.{Channel, handed, stepped}
 use Rattle.cable.specs.Passing.{turned}
 use Rattle.cable.specs.Turnings.{behind_first, counts_entered, count_handed, odd}
 use Rattle.acc.specs.declared.chip.Received.{Received}
@@ -25,7 +24,7 @@ use Rattle.pair.specs.Runs as runs
 use Rattle.pair.specs.Copies.{stored_in, one_waits, Waits, OverrunTellsAnUntakenCharacter, TakeAnswersTheLastStoredOnce}
 use Rattle.pair.specs.Law.{q_at}
 use Rattle.pair.proofs.Carrying.{Carries, arriving, still_under_way, step_carries}
-use Rattle.pair.proofs.Waves.{Tag, level_at, Next, on, fresh}
+use Rattle.pair.proofs.Waves.{Tag, level_at, Next, on}
 use Rattle.pair.proofs.Sender as S
 use Rattle.pair.proofs.Sender.{Sends, starts, starts_full, sends_level}
 use Rattle.pair.proofs.Receiver as R

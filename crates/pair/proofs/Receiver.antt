@@ -1,25 +1,24 @@
 -- A receiver at its clocks, against the waveform that arrives. Assumes nothing.
-use Rattle.std.proofs.Common.{◌≡◌, ℕ, zero, suc, ◌+◌, ◌-◌, ◌*◌, ◌^◌, ◌<◌, ◌≤◌, Bool, true, false, cond, not, ◌&&◌, eqb, ltb, leb, ◌⊎◌, List, [], ◌∷◌, ◌++◌, map, length, get_or, sym, refl, ap, ◌∙◌, subst, inl, inr, mul-le-mul_right, add-one, arith}
+use Rattle.std.proofs.Common.{◌≡◌, ℕ, zero, suc, ◌+◌, ◌-◌, ◌*◌, ◌^◌, ◌<◌, ◌≤◌, Bool, true, false, cond, eqb, ltb, leb, ◌⊎◌, List, [], ◌∷◌, ◌++◌, map, length, sym, refl, ap, ◌∙◌, subst, inl, inr, mul-le-mul_right, add-one, arith}
 use Rattle.std.proofs.lemmas.List.{length_push, map_push, length-map}
-use Rattle.std.proofs.lemmas.Bool.{cases_lt, leb-true, leb-false, le-leb, lt-leb, lt-ltb, le-ltb, cond_both, both_ways, ne_eqb}
-use Rattle.timing.specs.declared.counts.InternalCount.{InternalCount}
+use Rattle.std.proofs.lemmas.Bool.{cases_lt, le-leb, lt-leb, lt-ltb, le-ltb, both_ways, ne_eqb}
 use Rattle.timing.specs.declared.registers.Format.{Format}
 use Rattle.timing.specs.Counts.{internal}
 use Rattle.timing.specs.Ones.{bits}
-use Rattle.timing.specs.Registers.{bit, width, samples, control_of, half_count}
+use Rattle.timing.specs.Registers.{bit, samples, control_of, half_count}
 use Rattle.timing.proofs.HalfBits.{half_count_some}
 use Rattle.sections.specs.declared.receiver.Receiving.{Receiving}
 use Rattle.sections.specs.declared.receiver.Receiving.TheVariants.{Idle, Half, Character}
 use Rattle.sections.specs.declared.receiver.Receiver.{Receiver}
-use Rattle.sections.specs.Receive.{rsbd_by, wrong_parity, after_start, listen, heard}
-use Rattle.sections.specs.Transmit.{word_of, runs_out}
+use Rattle.sections.specs.Receive.{rsbd_by, heard}
+use Rattle.sections.specs.Transmit.{word_of}
 use Rattle.cable.specs.Passing.{turned}
 use Rattle.acc.specs.declared.chip.Received.{Received}
 use Rattle.pair.specs.Runs.{Stored, samples_at, first_sample, stops_at}
 use Rattle.pair.specs.Copies.{Copy}
 use Rattle.pair.proofs.Words.{length_bits, bits_push, held_push, held_low, turn_each, turn_each_push}
 use Rattle.pair.proofs.Copying.{made, copy_made}
-use Rattle.pair.proofs.Waves.{element, wave, level_at, Stopped, Ended, Next, on, fresh, wave_in, mark_stopped, stopped_on}
+use Rattle.pair.proofs.Waves.{wave, level_at, Stopped, Ended, Next, on, fresh, wave_in, mark_stopped, stopped_on}
 
 -- one for one, the newest first
 unfoldable pub Matches : Format → (ℕ → Bool) → List Stored → List ℕ → Type 0

@@ -1,8 +1,7 @@
 -- A transmitter at its clocks, against the waveform. Assumes nothing.
-use Rattle.std.proofs.Common.{◌≡◌, ℕ, zero, suc, ◌+◌, ◌-◌, ◌*◌, ◌/◌, ◌%◌, ◌^◌, ◌<◌, ◌≤◌, Bool, true, false, cond, not, ◌&&◌, eqb, ltb, leb, ◌⊎◌, List, [], ◌∷◌, sym, refl, ap, ◌∙◌, inl, inr, mul-le-mul_right, mul-le-mul, pow-suc, div-one, arith}
+use Rattle.std.proofs.Common.{◌≡◌, ℕ, zero, suc, ◌+◌, ◌-◌, ◌*◌, ◌/◌, ◌%◌, ◌^◌, ◌<◌, ◌≤◌, Bool, true, false, cond, not, ◌&&◌, eqb, ltb, leb, ◌⊎◌, List, ◌∷◌, sym, refl, ap, ◌∙◌, inl, inr, mul-le-mul_right, mul-le-mul, pow-suc, div-one, arith}
 use native.Mathlib.Nat.{div-div-eq-div-mul}
-use Rattle.std.proofs.lemmas.Bool.{cases_lt, le-leb, lt-leb, lt-ltb, both_ways, and_parts, eq-eqb, ne_eqb, not-true}
-use Rattle.timing.specs.declared.counts.InternalCount.{InternalCount}
+use Rattle.std.proofs.lemmas.Bool.{cases_lt, le-leb, lt-leb, lt-ltb, both_ways, and_parts, ne_eqb, not-true}
 use Rattle.timing.specs.declared.registers.Format.{Format}
 use Rattle.timing.specs.declared.registers.StopLength.{StopLength}
 use Rattle.timing.specs.declared.registers.StopLength.TheVariants.{One, OneAndHalf, Two}
@@ -13,7 +12,7 @@ use Rattle.sections.specs.declared.transmitter.Sending.{Sending}
 use Rattle.sections.specs.declared.transmitter.Sending.TheVariants.{Idle, Element, Stop}
 use Rattle.sections.specs.declared.transmitter.Transmitter.{Transmitter}
 use Rattle.sections.specs.Transmit.{word_of, runs_out, send, sent, idle_rules, next_element}
-use Rattle.pair.proofs.Waves.{element, wave, level_at, Stopped, Ended, Next, on, fresh, wave_in, mark_stopped, ended_stopped, ended_on}
+use Rattle.pair.proofs.Waves.{element, level_at, Ended, Next, on, fresh, wave_in, mark_stopped, ended_stopped, ended_on}
 
 -- an internal clock begins a start; go: RTS and CTS are active
 abbrev pub starts : Bool → Bool → Sending → Bool

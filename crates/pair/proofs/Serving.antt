@@ -5,7 +5,6 @@ use Rattle.faults.specs.declared.Fault.{Fault}
 use Rattle.faults.specs.Faults.{unplaced}
 use Rattle.std.proofs.lemmas.Bool.{and_parts, and_right, or_parts, both_ways, not-true, eqb-true, eqb-false, ne_eqb, leb-true, leb-false, lt-leb, cond_both}
 use Rattle.faults.specs.declared.End.{End}
-use Rattle.faults.specs.declared.End.TheVariants as end
 use Rattle.sections.specs.declared.receiver.Receiving.{Receiving}
 use Rattle.sections.specs.declared.receiver.Receiving.TheVariants.{Idle, Half, Character}
 use Rattle.sections.specs.declared.receiver.Receiver.{Receiver}
@@ -18,13 +17,13 @@ use Rattle.acc.specs.Clock.{fires, clock_of}
 use Rattle.acc.specs.Outputs.{write_of, low_written, flag_written, mode_written}
 use Rattle.pair.specs.declared.event.Event.{Event}
 use Rattle.pair.specs.Bench.{Bench, chip, last_clock}
-use Rattle.pair.specs.Calls.{after_call, moves, moment_reply, moment_done, moments_reply, moments_done}
-use Rattle.pair.specs.Moment.{is_write, is_at, write_at, level_of, set_all, write_all, after_rank_2, moved, moment_refusal, first_of, first_repeat, first_shut}
+use Rattle.pair.specs.Calls.{after_call, moves, moment_reply, moment_done}
+use Rattle.pair.specs.Moment.{write_at, level_of, set_all, write_all, moved, moment_refusal, first_of, first_repeat, first_shut}
 use Rattle.pair.specs.Runs.{Run, moment, stops_at, after, run}
-use Rattle.pair.specs.Ranks.{stop_sample_due, writes_bit, OverrunsShow, WritesCannotHideAnOverrun, MomentsAreSingleMoments, held_for_the_processor, StoredExactlyAtStopSamples}
+use Rattle.pair.specs.Ranks.{writes_bit, OverrunsShow, WritesCannotHideAnOverrun, MomentsAreSingleMoments, held_for_the_processor, StoredExactlyAtStopSamples}
 use Rattle.pair.specs.Law.{q_at}
 use Rattle.pair.proofs.Link.{due}
-use Rattle.pair.proofs.Ends.{Core, core, set_core, clock_full}
+use Rattle.pair.proofs.Ends.{Core, set_core, clock_full}
 use Rattle.pair.proofs.Directions.{done_ok, moment_after}
 use Rattle.pair.proofs.Steps.{line_to, ticked, chip_moved}
 

@@ -1,15 +1,15 @@
 -- Each direction of the bench is a link, and every call keeps what holds of it. Assumes nothing.
-use Rattle.std.proofs.Common.{◌≡◌, ℕ, zero, suc, ◌+◌, ◌-◌, ◌*◌, ◌%◌, ◌<◌, ◌≤◌, Bool, true, false, cond, not, ◌&&◌, eqb, ltb, leb, List, [], ◌∷◌, ◌++◌, length, replicate, sym, refl, ap, ◌∙◌, subst, zero-add, arith}
+use Rattle.std.proofs.Common.{◌≡◌, ℕ, suc, ◌+◌, ◌%◌, Bool, true, false, cond, ◌&&◌, ltb, List, [], ◌∷◌, ◌++◌, length, replicate, sym, refl, ap, ◌∙◌, subst, zero-add, arith}
 use Rattle.std.proofs.lemmas.Bool.{both_ways, and_parts, eqb-true, lt-ltb}
 use Rattle.faults.specs.declared.End.{End}
 use Rattle.faults.specs.declared.End.TheVariants as end
-use Rattle.timing.specs.Registers.{control_of, half_count}
+use Rattle.timing.specs.Registers.{control_of}
 use Rattle.sections.specs.declared.receiver.Receiving.{Receiving}
 use Rattle.sections.specs.declared.receiver.Receiver.{Receiver}
 use Rattle.sections.specs.Receive.{rsbd, released, idle_receiver}
 use Rattle.sections.specs.Transmit.{buffer_loaded, empty_transmitter}
 use Rattle.cable.specs.Channels.{Pair, Channel, Channels, handed, stepped, all_mark, is_clear}
-use Rattle.cable.specs.Turnings.{count_handed, turnings, odd, is_inverted, flip_arrives}
+use Rattle.cable.specs.Turnings.{turnings, odd, is_inverted}
 use Rattle.acc.specs.declared.chip.Acc.{Acc}
 use Rattle.acc.specs.declared.chip.Received.{Received}
 use Rattle.acc.specs.declared.chip.Registers.{Registers}
@@ -20,15 +20,15 @@ use Rattle.pair.specs.Calls.{started}
 use Rattle.pair.specs.Moment.{set_all, write_all, after_rank_2, moved}
 use Rattle.pair.specs.Runs.{Stored, Happening, taken, History, Run, Call, history, start_of, samples_at, first_sample, stops_at, noted, after, run}
 use Rattle.pair.specs.Runs as runs
-use Rattle.pair.specs.Copies.{stored_in, one_waits, Waits, OverrunTellsAnUntakenCharacter, TakeAnswersTheLastStoredOnce}
+use Rattle.pair.specs.Copies.{stored_in, OverrunTellsAnUntakenCharacter, TakeAnswersTheLastStoredOnce}
 use Rattle.pair.specs.Law.{opposite, channel_to, q_at}
-use Rattle.pair.proofs.Conditions.{WritesAllowedBits, FallsInsideACharacter, CallAllowed, CallsAllowed}
+use Rattle.pair.proofs.Conditions.{WritesAllowedBits, FallsInsideACharacter, CallsAllowed}
 use Rattle.pair.proofs.Carrying.{Carries, none, more}
 use Rattle.pair.proofs.Waves.{Tag, on}
 use Rattle.pair.proofs.Sender as S
 use Rattle.pair.proofs.Receiver as R
 use Rattle.pair.proofs.Receiver.{held_by, Matches, Follows}
-use Rattle.pair.proofs.Link.{Boards, format, sent_half, heard_count, some_q, Link, due, advanced, level_heard, rx_after, clocked, Step, level, Chain, Inv, Told, Fit, Inside, clock_keeps}
+use Rattle.pair.proofs.Link.{Boards, format, sent_half, heard_count, some_q, Link, due, level_heard, rx_after, clocked, Step, level, Chain, Inv, Told, Fit, Inside, clock_keeps}
 use Rattle.pair.proofs.Ends.{Core, core, normal, set_core, write_core, core_clock, clock_core}
 use Rattle.pair.proofs.Directions.{loaded_run, taken_run, chip_noted, moved_run, Does, nothing, loads, takes, moves, does}
 

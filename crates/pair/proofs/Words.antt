@@ -1,13 +1,13 @@
 -- The bits of a word, samples that are inverted, and parity. Assumes nothing.
-use Rattle.std.proofs.Common.{◌≡◌, ℕ, zero, suc, ◌+◌, ◌*◌, ◌/◌, ◌%◌, ◌^◌, ◌<◌, ◌≤◌, Bool, true, false, cond, not, eqb, List, [], ◌∷◌, ◌++◌, map, length, get_or, sym, refl, ap, ◌∙◌, mod-eq_of_lt, div-one, add-one, arith}
+use Rattle.std.proofs.Common.{◌≡◌, ℕ, zero, suc, ◌+◌, ◌/◌, ◌%◌, ◌^◌, ◌<◌, Bool, true, false, cond, not, eqb, List, [], ◌∷◌, ◌++◌, length, get_or, sym, refl, ap, ◌∙◌, mod-eq_of_lt, div-one, arith}
 use native.Mathlib.Nat.{div-div-eq-div-mul, pow-succ'}
 use Rattle.std.proofs.lemmas.List.{get_or_append_left}
 use Rattle.timing.specs.declared.registers.Format.{Format}
 use Rattle.timing.specs.declared.registers.Parity.{Parity}
 use Rattle.timing.specs.declared.registers.Parity.TheVariants.{Disabled, Even, Odd}
 use Rattle.timing.specs.Ones.{bits, odd_among, parity_by, parity_bit}
-use Rattle.timing.specs.Registers.{bit, width, samples}
-use Rattle.timing.proofs.Bits.{bits_low, bits_above, odd_among_low}
+use Rattle.timing.specs.Registers.{bit, width}
+use Rattle.timing.proofs.Bits.{bits_low, bits_above}
 use Rattle.sections.specs.Transmit.{word_of}
 use Rattle.cable.specs.Passing.{turned}
 

@@ -7,7 +7,7 @@ use Rattle.sections.specs.Transmit.{xsre}
 use Rattle.acc.specs.declared.chip.Received.{Received}
 use Rattle.pair.specs.Bench.{Bench, chip}
 use Rattle.pair.specs.Calls.{Opening, opened}
-use Rattle.pair.specs.Runs.{Stored, Happening, stored, taken, Call, history, start_of, run}
+use Rattle.pair.specs.Runs.{Happening, stored, taken, Call, history, start_of, run}
 use Rattle.pair.specs.Copies.{stored_in, nth, one_waits, Copy}
 use Rattle.pair.specs.Law.{opposite, channel_to, sent_format, calls_allowed, IsStored, LawFrom}
 

@@ -19,7 +19,7 @@ use Rattle.pair.specs.declared.event.Event.{Event}
 use Rattle.pair.specs.Bench.{Bench, chip}
 use Rattle.pair.specs.Calls.{Opening, opened, started, load_reply, moment_reply}
 use Rattle.pair.specs.Moment.{is_write, after_rank_2}
-use Rattle.pair.specs.Runs.{Stored, Call, load, take, moment, History, history, Run, start_of, after, run}
+use Rattle.pair.specs.Runs.{Stored, Call, load, take, moment, history, Run, start_of, after, run}
 use Rattle.pair.specs.Copies.{stored_in, nth, Copy, StoredIsLoadedInOrder, OverrunTellsAnUntakenCharacter, TakeAnswersTheLastStoredOnce}
 
 abbrev pub opposite : End → End

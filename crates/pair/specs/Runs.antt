@@ -14,7 +14,7 @@ use Rattle.acc.specs.declared.chip.Received.{Received}
 use Rattle.acc.specs.Calls.{received_of}
 use Rattle.acc.specs.Clock.{fires}
 use Rattle.pair.specs.declared.event.Event.{Event}
-use Rattle.pair.specs.Bench.{Bench, chip, clocked}
+use Rattle.pair.specs.Bench.{Bench, clocked}
 use Rattle.pair.specs.Calls.{load_reply, load_done, take_reply, take_done, moment_reply, moment_done}
 use Rattle.pair.specs.Moment.{with_both, set_all}
 

@@ -1,25 +1,21 @@
 -- Worked examples of transmission in whole runs, as one theorem. Assumes nothing.
-use Rattle.std.specs.Prelude.{◌≡◌, ℕ, Bool, true, false, ◌&&◌, List, [], ◌∷◌, ◌++◌, map, replicate, is_ok, Some, Ok, Err, Result}
+use Rattle.std.specs.Prelude.{◌≡◌, ℕ, Bool, true, false, ◌&&◌, List, [], ◌∷◌, ◌++◌, map, replicate, is_ok, Some, Ok, Err}
 use Rattle.faults.specs.Faults.{end_number, unplaced}
 use Rattle.timing.specs.Calls.{deadline_of}
 use Rattle.sections.specs.Transmit.{xsre}
-use Rattle.faults.specs.declared.Cause.TheVariants.{NothingReceived, NoSuchEnd, OutOfRange, TooManyEvents, RepeatedDsr, Recovering}
-use Rattle.faults.specs.declared.Cause.{Cause}
+use Rattle.faults.specs.declared.Cause.TheVariants.{NothingReceived, NoSuchEnd, OutOfRange}
 use Rattle.faults.specs.declared.End.{End}
 use Rattle.faults.specs.declared.End.TheVariants as end
-use Rattle.faults.specs.declared.Fault.{Fault}
 use Rattle.cable.specs.Channels.{Flip, Channel, Channels}
 use Rattle.cable.specs.Turnings.{turnings}
 use Rattle.acc.specs.declared.chip.Received.{Received}
 use Rattle.acc.specs.Calls.{opened_chip}
-use Rattle.pair.specs.declared.event.Event.{Event}
 use Rattle.pair.specs.Bench.{Bench, chip, at_place}
-use Rattle.pair.specs.Moment.{served_list}
-use Rattle.pair.specs.Runs.{Stored, Run, Call, load, moment, stored, history, after, run, start_of}
+use Rattle.pair.specs.Runs.{Stored, Run, Call, load, moment, history, after, run, start_of}
 use Rattle.pair.specs.Rows.{flipped_cable, fastest, fresh, at_step, sets_bit, calls, open_bench, refused_at}
 use Rattle.pair.specs.Copies.{stored_in}
 use Rattle.pair.specs.Law.{calls_allowed, cts_at_next_internal_clock}
-use Rattle.pair.specs.Calls.{Opening, registers_of, open_of, put_done, load_reply, load_done, take_reply, take_done, put_reply, get_reply, moment_reply, moment_done, moments_done}
+use Rattle.pair.specs.Calls.{Opening, registers_of, open_of, load_reply, take_reply, take_done, put_reply, get_reply, moment_done}
 
 -- one pair waits; two flips turn over the pair of step 5, and one that of step 7
 abbrev pub two_flips : Channel

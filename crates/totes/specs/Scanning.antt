@@ -1,5 +1,5 @@
 -- The scanner board and what it loads. Assumes nothing.
-use Rattle.std.specs.Prelude.{ℕ, ◌+◌, Bool, cond, ◌&&◌, ◌==◌, nat_lt}
+use Rattle.std.specs.Prelude.{ℕ, ◌+◌, cond, ◌&&◌, ◌==◌, nat_lt}
 use Rattle.totes.specs.declared.scanner.Scanner.{Scanner}
 
 -- a tote comes when it is due, and the next one is due an interval later; there are twenty

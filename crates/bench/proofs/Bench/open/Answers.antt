@@ -1,5 +1,4 @@
 use Rattle.std.proofs.Common.{is_ok, sym, ap, ◌∙◌, subst}
-use Rattle.pair.specs.Calls.{open_answer}
 use Rattle.pair.specs.Consequences.{Transmits}
 use Rattle.pair.proofs.NothingLost.{opened_transmits}
 use Rattle.bench.specs.View.{bench_of, opening}
