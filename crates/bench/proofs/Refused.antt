@@ -1,6 +1,7 @@
 -- The tests of a moment, one after the other, are those of its definition. Assumes nothing.
 use Rattle.std.proofs.Common.{◌≡◌, ℕ, ◌+◌, Bool, true, false, cond, not, ◌&&◌, ◌||◌, eqb, leb, List, [], ◌∷◌, get_or, Some, None, Ok, Err, Option, Result, refl, ap, ◌∙◌}
-use Rattle.faults.specs.declared.Cause.TheVariants.{TooManyEvents, NotOpen, ClockLimit}
+use Rattle.faults.specs.declared.Cause.TheVariants.{NoSuchEnd, OutOfRange, TooManyEvents, RepeatedDsr, NotOpen, ClockLimit, Recovering}
+use Rattle.faults.specs.declared.End.{End}
 use Rattle.faults.specs.declared.End.TheVariants as end
 use Rattle.faults.specs.declared.Fault.{Fault}
 use Rattle.faults.specs.Faults.{unplaced}
@@ -11,7 +12,7 @@ use Rattle.pair.specs.Moment.{is_write, is_at, bad_end, bad_number, first_of, fi
 use Rattle.moments.specs.declared.rules.Barred.{Barred}
 use Rattle.moments.specs.declared.rules.Rule.{Rule}
 use Rattle.moments.specs.declared.rules.Rule.TheVariants.{EndExists, NumbersFit, DsrOnce, EndRecovered}
-use Rattle.moments.specs.Rules.{unbarred, breaks, barred_by, first_broken, refusal_at, refused_at, checked, too_many, then}
+use Rattle.moments.specs.Rules.{shown_fault, shown, unbarred, breaks, barred_by, first_broken, refused_at, checked, too_many, then}
 use Rattle.bench.specs.Moment.{recoveries, moment_checked}
 
 ends : (s : Barred) (n : ℕ) (vs : List Event) → first_broken EndExists s n vs ≡ first_of bad_end n vs
@@ -46,9 +47,13 @@ shut s n (v ∷ vs) =
     ap (λ o. cond (breaks EndRecovered s v) (Some n) o)
     (shut (barred_by EndRecovered s v) (n + 1) vs ∙ (λ j. first_shut (s.a || at_a j) (s.b || at_b j) (n + 1) vs))
 
+abbrev as_shown : (ℕ → Fault) → ℕ → Fault
+as_shown f i = shown_fault (f i)
+
 chained : (o1 o2 : Option ℕ) (many : Bool) (o4 : Option ℕ) (opened late : Bool) (o7 : Option ℕ) (f1 f2 f4 f7 : ℕ → Fault) (g3 g5 g6 : Fault)
-    → then (then (refused_at o1 f1) (then (refused_at o2 f2) (then (cond many (Err g3) (Ok tt)) (refused_at o4 f4)))) (then (cond opened (cond late (Err g6) (Ok tt)) (Err g5)) (refused_at o7 f7))
-    ≡ refused_or_done (or_else o1 f1 (or_else o2 f2 (refuse_if many g3 (or_else o4 f4 (refuse_if (not opened) g5 (refuse_if late g6 (or_else o7 f7 None)))))))
+    → then (then (refused_at o1 (as_shown f1)) (then (refused_at o2 (as_shown f2)) (then (cond many (Err (shown_fault g3)) (Ok tt)) (refused_at o4 (as_shown f4)))))
+    (then (cond opened (cond late (Err (shown_fault g6)) (Ok tt)) (Err (shown_fault g5))) (refused_at o7 (as_shown f7)))
+    ≡ shown (refused_or_done (or_else o1 f1 (or_else o2 f2 (refuse_if many g3 (or_else o4 f4 (refuse_if (not opened) g5 (refuse_if late g6 (or_else o7 f7 None))))))))
 chained (Some i) o2 many o4 opened late o7 f1 f2 f4 f7 g3 g5 g6 = refl
 chained None (Some i) many o4 opened late o7 f1 f2 f4 f7 g3 g5 g6 = refl
 chained None None true o4 opened late o7 f1 f2 f4 f7 g3 g5 g6 = refl
@@ -58,18 +63,22 @@ chained None None false None true true o7 f1 f2 f4 f7 g3 g5 g6 = refl
 chained None None false None true false (Some i) f1 f2 f4 f7 g3 g5 g6 = refl
 chained None None false None true false None f1 f2 f4 f7 g3 g5 g6 = refl
 
-same_reply : (vs : List Event) (m : Bench) → moment_checked vs m ≡ moment_reply vs m
+same_reply : (vs : List Event) (m : Bench) → moment_checked vs m ≡ shown (moment_reply vs m)
 unfolding checked moment_refusal
 same_reply vs m =
-    let at : Rule → ℕ → Fault = λ k i. refusal_at k i (get_or vs i no_event) in
-    (λ j. then (then (refused_at (ends unbarred 0 vs j) (at EndExists)) (then (refused_at (numbers unbarred 0 vs j) (at NumbersFit))
-    (then (cond (too_many vs) (Err (at_place 32 (end_at vs 32) TooManyEvents)) (Ok tt)) (refused_at (repeats unbarred 0 vs j) (at DsrOnce)))))
+    let end_there : ℕ → Option End = end_at vs in
+    let f1 : ℕ → Fault = λ i. at_place i None NoSuchEnd in
+    let f2 : ℕ → Fault = λ i. at_place i (end_there i) OutOfRange in
+    let f4 : ℕ → Fault = λ i. at_place i (end_there i) RepeatedDsr in
+    let f7 : ℕ → Fault = λ i. at_place i (end_there i) Recovering in
+    (λ j. then (then (refused_at (ends unbarred 0 vs j) (as_shown f1)) (then (refused_at (numbers unbarred 0 vs j) (as_shown f2))
+    (then (cond (too_many vs) (Err (at_place 32 (end_at vs 32) TooManyEvents)) (Ok tt)) (refused_at (repeats unbarred 0 vs j) (as_shown f4)))))
     (then (cond m.is_open (cond (leb last_clock m.clock) (Err (unplaced ClockLimit)) (Ok tt)) (Err (unplaced NotOpen)))
-    (refused_at (shut (recoveries m) 0 vs j) (at EndRecovered))))
+    (refused_at (shut (recoveries m) 0 vs j) (as_shown f7))))
     ∙ chained (first_of bad_end 0 vs) (first_of bad_number 0 vs) (too_many vs) (first_repeat false false 0 vs) m.is_open (leb last_clock m.clock)
-    (first_shut (still_recovering m.a) (still_recovering m.b) 0 vs) (at EndExists) (at NumbersFit) (at DsrOnce) (at EndRecovered)
+    (first_shut (still_recovering m.a) (still_recovering m.b) 0 vs) f1 f2 f4 f7
     (at_place 32 (end_at vs 32) TooManyEvents) (unplaced NotOpen) (unplaced ClockLimit)
 
 -- as the definition of a moment says it
-pub answered : {r : Result (Unit {0}) Fault} (vs : List Event) (m : Bench) → r ≡ moment_checked vs m → r ≡ moment_reply vs m
+pub answered : {r : Result (Unit {0}) Fault} (vs : List Event) (m : Bench) → r ≡ moment_checked vs m → r ≡ shown (moment_reply vs m)
 answered vs m e = e ∙ same_reply vs m

@@ -1,5 +1,5 @@
 -- The ranks, each serving the list that the one before it left, are those of a moment's definition. Assumes nothing.
-use Rattle.std.proofs.Common.{◌≡◌, ℕ, ◌+◌, Bool, true, false, cond, List, [], ◌∷◌, Ok, Err, Result, refl, ap, ◌∙◌, arith}
+use Rattle.std.proofs.Common.{◌≡◌, ℕ, ◌+◌, Bool, true, false, cond, List, [], ◌∷◌, Ok, Err, Result, is_ok, refl, ap, ◌∙◌, arith}
 use Rattle.faults.specs.declared.End.{End}
 use Rattle.faults.specs.declared.End.TheVariants as end
 use Rattle.faults.specs.declared.Fault.{Fault}
@@ -9,6 +9,7 @@ use Rattle.pair.specs.declared.event.Event.{Event}
 use Rattle.pair.specs.Bench.{Bench, clocked}
 use Rattle.pair.specs.Calls.{after_call, moment_reply, moment_done, list_after}
 use Rattle.pair.specs.Moment.{sets_dsr, write_at, level_of, numbered, set_all, write_all, after_rank_2, moved, how_many, number_each, served_list}
+use Rattle.moments.specs.Rules.{shown}
 use Rattle.bench.specs.Moment.{settings_numbered, list_served, ranks_served, list_left}
 
 -- a serving number changes neither which events write nor what they write
@@ -48,9 +49,18 @@ same_list : (r : Result (Unit {0}) Fault) (vs : List Event) → list_left r (lis
 same_list (Ok x) vs = list_is_served vs
 same_list (Err f) vs = refl
 
+-- how an answer shows changes neither what the call leaves nor whether it was accepted
+shown_leaves : (r : Result (Unit {0}) Fault) (m n : Bench) → after_call (shown r) m n ≡ after_call r m n
+shown_leaves (Ok x) m n = refl
+shown_leaves (Err f) m n = refl
+
+pub shown_ok : (r : Result (Unit {0}) Fault) → is_ok (shown r) ≡ is_ok r
+shown_ok (Ok x) = refl
+shown_ok (Err f) = refl
+
 -- as the definition of a moment says it
-pub left : {r : Result (Unit {0}) Fault} {n : Bench} (vs : List Event) (m : Bench) → r ≡ moment_reply vs m → n ≡ after_call r (ranks_served vs m) m → n ≡ moment_done vs m
-left vs m a e = e ∙ (λ j. after_call (a j) (ranks_are_moved vs m j) m)
+pub left : {r : Result (Unit {0}) Fault} {n : Bench} (vs : List Event) (m : Bench) → r ≡ shown (moment_reply vs m) → n ≡ after_call r (ranks_served vs m) m → n ≡ moment_done vs m
+left vs m a e = e ∙ (λ j. after_call (a j) (ranks_are_moved vs m j) m) ∙ shown_leaves (moment_reply vs m) (moved vs m) m
 
 pub list_left_after : (r : Result (Unit {0}) Fault) {ws : List Event} (vs : List Event) → ws ≡ list_left r (list_served vs) vs → ws ≡ list_after r vs
 list_left_after r vs e = e ∙ same_list r vs

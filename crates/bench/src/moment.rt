@@ -3,6 +3,7 @@ ghost use Rattle.std.specs.Prelude.{◌≡◌, ◌<◌, ◌≤◌, true, length,
 ghost use Rattle.pair.specs.Bench.{last_clock};
 ghost use Rattle.pair.specs.Calls.{after_call, moment_reply, moment_done, list_after};
 ghost use Rattle.pair.specs.Ranks.{OverrunsShow};
+ghost use Rattle.moments.specs.Rules.{shown};
 ghost use Rattle.bench.specs.Moment.{ready, recoveries, moment_checked, ranks_served, list_served, list_left};
 ghost use Rattle.bench.specs.View.{bench_of};
 
@@ -73,11 +74,11 @@ impl<C: Cable> Bench<C> {
     }
 
     /// One moment with its events. An accepted one writes into each event the number at which it was served. Refused by causes 4 to 7
-    /// and 9 to 11.
+    /// and 9 to 11. An index that needs more than 32 bits shows as 4,294,967,295.
     ///
     /// The receivers are served before the writes, so a write cannot hide an overrun of this very clock.
     pub fn moment(&mut self, events: &mut [Event]) -> Result<(), Fault>
-        ensures answer { result ≡ moment_reply events.old (bench_of C.meaning self.old) }
+        ensures answer { result ≡ shown (moment_reply events.old (bench_of C.meaning self.old)) }
         ensures state { bench_of C.meaning self.new ≡ moment_done events.old (bench_of C.meaning self.old) }
         ensures list { events.new ≡ list_after result events.old }
         ensures overruns { is_ok result ≡ true → OverrunsShow events.old (bench_of C.meaning self.old) (bench_of C.meaning self.new) }

@@ -24,7 +24,7 @@ fn event(end: u32, kind: u32, address: u32, value: u32) -> Event {
 }
 
 // What a refusal shows: cause, event index and end; all 0 where there is none.
-fn told<T: Drop>(answer: Result<T, Fault>) -> (u32, u64, u32) {
+fn told<T: Drop>(answer: Result<T, Fault>) -> (u32, u32, u32) {
     match answer {
         Ok(_) => (0, 0, 0),
         Err(fault) => (

@@ -2,7 +2,7 @@
 use faults::{Cause, End, Fault, Place};
 use std::test::Fail;
 
-fn fault_at(cause: Cause, index: u64, end: End) -> Fault {
+fn fault_at(cause: Cause, index: u32, end: End) -> Fault {
     Fault {
         cause,
         place: Place {

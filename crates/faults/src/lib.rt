@@ -95,7 +95,7 @@ impl Cause {
 /// and where no lawful end is concerned there is none.
 #[derive(Clone, Copy)]
 pub struct Place {
-    pub index: u64,
+    pub index: u32,
     pub end: Option<End>,
 }
 

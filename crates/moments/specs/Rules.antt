@@ -1,5 +1,5 @@
 -- What refuses the list of a moment, rule by rule. Assumes nothing.
-use Rattle.std.specs.Prelude.{ℕ, ◌+◌, Bool, false, cond, ◌&&◌, ◌||◌, List, [], ◌∷◌, length, Some, None, Ok, Err, Option, Result, ◌==◌, nat_lt, slice_index_or}
+use Rattle.std.specs.Prelude.{ℕ, ◌+◌, min, Bool, false, cond, ◌&&◌, ◌||◌, List, [], ◌∷◌, length, Some, None, Ok, Err, Option, Result, ◌==◌, nat_lt, slice_index_or}
 use Rattle.faults.specs.declared.Cause.TheVariants.{NoSuchEnd, OutOfRange, TooManyEvents, RepeatedDsr, Recovering}
 use Rattle.faults.specs.declared.End.TheVariants as end
 use Rattle.faults.specs.declared.Fault.{Fault}
@@ -32,16 +32,28 @@ bars EndRecovered v = is_write v && v.address == 31
 abbrev pub barred_by : Rule → Barred → Event → Barred
 barred_by k s v = barred (s.a || (bars k v && is_at end.A v)) (s.b || (bars k v && is_at end.B v))
 
+-- A place has 32 bits for an index: one that needs more shows as the largest that they hold.
+abbrev pub shown_index : ℕ → ℕ
+shown_index i = min i 4294967295
+
+abbrev pub shown_fault : Fault → Fault
+shown_fault f = record { cause = f.cause; place = record { index = shown_index f.place.index; end = f.place.end } }
+
+-- an answer as a host sees it
+abbrev pub shown : Result (Unit {0}) Fault → Result (Unit {0}) Fault
+shown (Ok x) = Ok x
+shown (Err f) = Err (shown_fault f)
+
 -- the index of the first event that breaks a rule, counted from n
 unfoldable pub first_broken : Rule → Barred → ℕ → List Event → Option ℕ
 first_broken k s n [] = None
 first_broken k s n (v ∷ vs) = cond (breaks k s v) (Some n) (first_broken k (barred_by k s v) (n + 1) vs)
 
 abbrev pub refusal_at : Rule → ℕ → Event → Fault
-refusal_at EndExists i v = at_place i None NoSuchEnd
-refusal_at NumbersFit i v = at_place i (end_of v.end) OutOfRange
-refusal_at DsrOnce i v = at_place i (end_of v.end) RepeatedDsr
-refusal_at EndRecovered i v = at_place i (end_of v.end) Recovering
+refusal_at EndExists i v = at_place (shown_index i) None NoSuchEnd
+refusal_at NumbersFit i v = at_place (shown_index i) (end_of v.end) OutOfRange
+refusal_at DsrOnce i v = at_place (shown_index i) (end_of v.end) RepeatedDsr
+refusal_at EndRecovered i v = at_place (shown_index i) (end_of v.end) Recovering
 
 abbrev pub refused_at : Option ℕ → (ℕ → Fault) → Result (Unit {0}) Fault
 refused_at None f = Ok tt

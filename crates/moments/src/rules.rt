@@ -1,7 +1,7 @@
 // What refuses the list of a moment: causes 4 to 7 and 11.
 ghost use Rattle.std.specs.Prelude.{◌≡◌, ◌≤◌, length, OnOk};
 ghost use Rattle.pair.specs.Bench.{at_place, end_of};
-ghost use Rattle.moments.specs.Rules.{unbarred, breaks, bars, barred_by, refusal_at, checked, too_many, few_checked, list_checked};
+ghost use Rattle.moments.specs.Rules.{shown_index, unbarred, breaks, bars, barred_by, refusal_at, checked, too_many, few_checked, list_checked};
 
 use faults::{Cause, End, Fault, Place};
 use pair::event::Event;
@@ -48,12 +48,12 @@ pub fn end_of(number: u32) -> Option<End>
 
 // A refusal at an event.
 fn at_event(index: usize, end: Option<End>, cause: Cause) -> Fault
-    ensures { result ≡ at_place index end cause }
+    ensures { result ≡ at_place (shown_index index) end cause }
 {
     Fault {
         cause,
         place: Place {
-            index: index as u64,
+            index: index.min(4294967295) as u32,
             end,
         },
     }

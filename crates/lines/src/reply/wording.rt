@@ -34,7 +34,7 @@ fn push_refusal(text: &mut Text, line: u32, fault: Fault)
 {
     text.push(b'?');
     text.push_field(line);
-    text.push_index(fault.place.index);
+    text.push_index(u64::from(fault.place.index));
     let (end, cause) = (fault.place.end_number(), fault.cause.number());
     text.push_field(end);
     text.push_field(cause);
