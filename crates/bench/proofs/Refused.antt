@@ -1,5 +1,5 @@
 -- The tests of a moment, one after the other, are those of its definition. Assumes nothing.
-use Rattle.std.proofs.Common.{◌≡◌, ℕ, ◌+◌, Bool, true, false, cond, not, ◌&&◌, ◌||◌, eqb, leb, List, [], ◌∷◌, get_or, Some, None, Ok, Err, Option, Result, refl, ap, ◌∙◌}
+use Rattle.std.proofs.Common.{◌≡◌, ℕ, ◌+◌, Bool, true, false, cond, not, ◌&&◌, ◌||◌, eqb, leb, List, [], ◌∷◌, Some, None, Ok, Err, Option, Result, refl, ap, ◌∙◌}
 use Rattle.faults.specs.declared.Cause.TheVariants.{NoSuchEnd, OutOfRange, TooManyEvents, RepeatedDsr, NotOpen, ClockLimit, Recovering}
 use Rattle.faults.specs.declared.End.{End}
 use Rattle.faults.specs.declared.End.TheVariants as end
@@ -8,9 +8,8 @@ use Rattle.faults.specs.Faults.{unplaced}
 use Rattle.pair.specs.declared.event.Event.{Event}
 use Rattle.pair.specs.Bench.{Bench, at_place, last_clock}
 use Rattle.pair.specs.Calls.{refused_or_done, moment_reply}
-use Rattle.pair.specs.Moment.{is_write, is_at, bad_end, bad_number, first_of, first_repeat, first_shut, still_recovering, no_event, end_at, or_else, refuse_if, moment_refusal}
+use Rattle.pair.specs.Moment.{is_write, is_at, bad_end, bad_number, first_of, first_repeat, first_shut, still_recovering, end_at, or_else, refuse_if, moment_refusal}
 use Rattle.moments.specs.declared.rules.Barred.{Barred}
-use Rattle.moments.specs.declared.rules.Rule.{Rule}
 use Rattle.moments.specs.declared.rules.Rule.TheVariants.{EndExists, NumbersFit, DsrOnce, EndRecovered}
 use Rattle.moments.specs.Rules.{shown_fault, shown, unbarred, breaks, barred_by, first_broken, refused_at, checked, too_many, then}
 use Rattle.bench.specs.Moment.{recoveries, moment_checked}

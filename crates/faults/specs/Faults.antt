@@ -63,7 +63,7 @@ unplaced c = record { cause = c; place = record { index = 0; end = None } }
 
 -- a cause's text and number, an event's index and an end's text, as people read them
 abbrev pub told : List ℕ → ℕ → ℕ → List ℕ → List ℕ
-told text number index end_of_lem = text ++ (codes " (cause " ++ (decimal number ++ (codes ", event index " ++ (decimal index ++ (codes ", " ++ (end_of_lem ++ codes ")"))))))
+told text number index end_of = text ++ (codes " (cause " ++ (decimal number ++ (codes ", event index " ++ (decimal index ++ (codes ", " ++ (end_of ++ codes ")"))))))
 
 abbrev pub sentence : Fault → List ℕ
 sentence f = told (cause_text f.cause) (cause_number f.cause) f.place.index (end_text f.place.end)
