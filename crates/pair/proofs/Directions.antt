@@ -19,7 +19,8 @@ use Rattle.pair.specs.declared.event.Event.{Event}
 use Rattle.pair.specs.Bench.{Bench, chip, with_chip, at_place}
 use Rattle.pair.specs.Calls.{after_call, asked, at_end, load_reply, load_done, take_reply, take_done, moment_reply}
 use Rattle.pair.specs.Moment.{with_both, set_all, after_rank_2, moved}
-use Rattle.pair.specs.Runs.{taken, History, Run, Call, load, take, moment, history, with_history, clock_noted, noted, moment_noted, take_noted, after}
+use Rattle.pair.specs.Runs.{taken, History, Run, Call, load, take, moment, history, with_history, clock_noted, moment_noted, take_noted, after}
+use Rattle.pair.proofs.Link.{noted}
 use Rattle.pair.proofs.Conditions.{WritesAllowedBits, FallsInsideACharacter, CallAllowed}
 use Rattle.pair.proofs.Ends.{kept_setting}
 

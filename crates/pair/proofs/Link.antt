@@ -19,7 +19,7 @@ use Rattle.cable.specs.Passing.{turned}
 use Rattle.cable.specs.Turnings.{behind_first, counts_entered, count_handed, odd}
 use Rattle.acc.specs.declared.chip.Received.{Received}
 use Rattle.acc.specs.declared.chip.Registers.{Registers}
-use Rattle.pair.specs.Runs.{Stored, Happening, History, samples_at, first_sample, stops_at, noted}
+use Rattle.pair.specs.Runs.{Stored, Happening, History, samples_at, first_sample, stops_at}
 use Rattle.pair.specs.Runs as runs
 use Rattle.pair.specs.Copies.{stored_in, one_waits, Waits, OverrunTellsAnUntakenCharacter, TakeAnswersTheLastStoredOnce}
 use Rattle.pair.specs.Law.{q_at}
@@ -76,6 +76,16 @@ rx_after b v l = cond (due (q_at b.r) l.r_div) (listen b.r.control b.r.receive_r
 
 abbrev pub tx_by : Boards → Bool → Bool → Link → Transmitter
 tx_by b fired go l = cond fired (send b.s.control b.s.transmit_rate false go l.tx) l.tx
+
+-- what a φ clock adds to a history: fired tells whether it was an internal clock, t is the number of the step, state is the receiver's before the clock
+-- and x what it holds after it
+abbrev pub noted : Bool → ℕ → Receiving → Received → History → History
+noted fired t state x h =
+    cond (fired && stops_at state)
+    (record { loaded = h.loaded; happened = runs.stored (record { received = x; steps = h.sampled }) ∷ h.happened; sampled = [] })
+    (cond (fired && samples_at state)
+    (record { loaded = h.loaded; happened = h.happened; sampled = cond (first_sample state) [] h.sampled ++ t ∷ [] })
+    h)
 
 abbrev pub history_after : Boards → Bool → Link → History
 history_after b v l = noted (due (q_at b.r) l.r_div) l.time l.rx.state (held_by (rx_after b v l)) l.history

@@ -121,7 +121,7 @@ stop_heard control rate v r (Character f left n taken) h =
 
 no_stop_heard : (control rate : ℕ) (v : Bool) (r : Receiver) (st : Receiving) → stops_at st ≡ false → held_for_the_processor (heard st control rate v r) ≡ held_for_the_processor r
 no_stop_heard control rate v r Idle h = refl
-no_stop_heard control rate v r (Half left) h = refl
+no_stop_heard control rate v r (Half _) h = refl
 no_stop_heard control rate v r (Character f left n taken) h = by (runs_out left) (ltb taken (samples f)) h
   where
     seen : Receiver

@@ -18,7 +18,7 @@ use Rattle.pair.specs.declared.event.Event.{Event}
 use Rattle.pair.specs.Bench.{Bench, chip, sent_by}
 use Rattle.pair.specs.Calls.{started}
 use Rattle.pair.specs.Moment.{set_all, write_all, after_rank_2, moved}
-use Rattle.pair.specs.Runs.{Stored, Happening, taken, History, Run, Call, history, start_of, samples_at, first_sample, stops_at, noted, after, run}
+use Rattle.pair.specs.Runs.{Stored, Happening, taken, History, Run, Call, history, start_of, samples_at, first_sample, stops_at, after, run}
 use Rattle.pair.specs.Runs as runs
 use Rattle.pair.specs.Copies.{stored_in, OverrunTellsAnUntakenCharacter, TakeAnswersTheLastStoredOnce}
 use Rattle.pair.specs.Law.{opposite, channel_to, q_at}
@@ -28,7 +28,7 @@ use Rattle.pair.proofs.Waves.{Tag, on}
 use Rattle.pair.proofs.Sender as S
 use Rattle.pair.proofs.Receiver as R
 use Rattle.pair.proofs.Receiver.{held_by, Matches, Follows}
-use Rattle.pair.proofs.Link.{Boards, format, sent_half, heard_count, some_q, Link, due, level_heard, rx_after, clocked, Step, level, Chain, Inv, Told, Fit, Inside, clock_keeps}
+use Rattle.pair.proofs.Link.{Boards, format, sent_half, heard_count, some_q, Link, due, level_heard, rx_after, clocked, Step, level, Chain, Inv, Told, Fit, Inside, clock_keeps, noted}
 use Rattle.pair.proofs.Ends.{Core, core, normal, set_core, write_core, core_clock, clock_core}
 use Rattle.pair.proofs.Directions.{loaded_run, taken_run, chip_noted, moved_run, Does, nothing, loads, takes, moves, does}
 

@@ -88,15 +88,6 @@ clock_noted t before after h =
     (record { loaded = h.loaded; happened = h.happened; sampled = cond (first_sample before.receiver.state) [] h.sampled ++ t ∷ [] })
     h)
 
--- the same where fired tells whether it was an internal clock, state is the receiver's before the clock and x what it holds after it
-abbrev pub noted : Bool → ℕ → Receiving → Received → History → History
-noted fired t state x h =
-    cond (fired && stops_at state)
-    (record { loaded = h.loaded; happened = stored (record { received = x; steps = h.sampled }) ∷ h.happened; sampled = [] })
-    (cond (fired && samples_at state)
-    (record { loaded = h.loaded; happened = h.happened; sampled = cond (first_sample state) [] h.sampled ++ t ∷ [] })
-    h)
-
 -- a moment that is accepted; what is stored is noted before the writes of that moment
 abbrev pub moment_noted : List Event → Run → Run
 moment_noted vs r =

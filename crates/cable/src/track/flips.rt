@@ -43,7 +43,7 @@ fn is_due(position: u32, elapsed: u64) -> bool
     position as u64 == elapsed
 }
 
-// A flip that was due is removed.
+// A flip that was due is struck off.
 fn after(left: &[u32], due: bool) -> &[u32]
     requires { 0 < length left.now }
     ensures { result.now ≡ (if due then drop 1 left.now else left.now) }
