@@ -1,5 +1,5 @@
 -- What a host may ask of one chip, when it is refused, and what it leaves. Assumes nothing.
-use Rattle.std.specs.Prelude.{ℕ, zero, suc, ◌+◌, ◌/◌, ◌%◌, Bool, true, false, cond, Ok, Err, Result, ◌==◌, nat_lt}
+use Rattle.std.specs.Prelude.{ℕ, zero, suc, ◌+◌, ◌/◌, ◌%◌, Bool, true, false, cond, List, ◌++◌, Ok, Err, Result, ◌==◌, nat_lt, codes, decimal}
 use Rattle.faults.specs.declared.Cause.{Cause}
 use Rattle.faults.specs.declared.Cause.TheVariants.{Recovering, BufferNotEnabled, BufferFull, NothingReceived}
 use Rattle.timing.specs.Counts.{phi}
@@ -51,6 +51,10 @@ dsr_set v e = with_lines (with_dsr_setting v e.lines) e
 abbrev pub pins_of : Acc → Pins
 pins_of e = record { xout = e.transmitter.xout; rts = e.lines.rts; int = interrupt e }
 
+-- the pins as people read them: XOUT, RTS and INT as 0 or 1
+abbrev pub pins_text : Pins → List ℕ
+pins_text p = decimal (cond p.xout 1 0) ++ (codes " " ++ (decimal (cond p.rts 1 0) ++ (codes " " ++ decimal (cond p.int 1 0))))
+
 -- a call that is refused leaves the chip as it was
 abbrev pub unless_refused : {T : Type 0} → Result T Cause → Acc → Acc → Acc
 unless_refused (Ok x) after before = after
@@ -100,6 +104,11 @@ load_done c e = unless_refused (load_checked e) (with_transmitter (buffer_loaded
 
 unfoldable pub load_of : ℕ → Acc → Acc
 load_of c e = load_done c e
+
+-- a received character as people read it: its number, and RFER, ROVER and RPER as 0 or 1
+abbrev pub received_text : Received → List ℕ
+received_text r =
+    decimal r.character ++ (codes " " ++ (decimal (cond r.rfer 1 0) ++ (codes " " ++ (decimal (cond r.rover 1 0) ++ (codes " " ++ decimal (cond r.rper 1 0))))))
 
 -- take answers the character with RFER, ROVER and RPER, and resets RBRL
 abbrev pub received_of : Acc → Received

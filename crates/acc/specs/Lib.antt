@@ -1,5 +1,6 @@
 pub mod Calls
 pub mod Clock
+pub mod Fields
 pub mod Inputs
 pub mod Outputs
 pub mod Sound

@@ -1,7 +1,12 @@
 // The chip's state. Its parts change by themselves in the modules below.
+ghost use Rattle.std.specs.Prelude.{◌≡◌, Some};
+ghost use Rattle.acc.specs.Calls.{pins_text, received_text};
+
 use sections::receiver::Receiver;
 use sections::timer::Timer;
 use sections::transmitter::Transmitter;
+use std::fmt;
+use std::marker::Model;
 use timing::counts::PhiCount;
 
 mod calls;
@@ -10,7 +15,7 @@ mod inputs;
 mod outputs;
 
 /// The control register, the interval register and the two rate registers.
-#[derive(Clone, Copy)]
+#[derive(Clone, Copy, Default)]
 pub struct Registers {
     pub control: u8,
     pub interval: u8,
@@ -19,7 +24,7 @@ pub struct Registers {
 }
 
 /// Which register output bits 0 to 10 go to.
-#[derive(Clone, Copy)]
+#[derive(Clone, Copy, Default)]
 pub struct LoadFlags {
     pub ldctrl: bool,
     pub ldir: bool,
@@ -28,14 +33,14 @@ pub struct LoadFlags {
 }
 
 /// Test mode and break.
-#[derive(Clone, Copy)]
+#[derive(Clone, Copy, Default)]
 pub struct Modes {
     pub tstmd: bool,
     pub brkon: bool,
 }
 
 /// Which status raises the interrupt.
-#[derive(Clone, Copy)]
+#[derive(Clone, Copy, Default)]
 pub struct Enables {
     pub rienb: bool,
     pub xbienb: bool,
@@ -44,7 +49,7 @@ pub struct Enables {
 }
 
 /// The control lines, and RIN, as the last φ clock took them; RTS; and what a change of CTS and DSR is compared with.
-#[derive(Clone, Copy)]
+#[derive(Clone, Copy, Default)]
 pub struct Lines {
     pub rtson: bool,
     pub rts: bool,
@@ -58,6 +63,9 @@ pub struct Lines {
 }
 
 /// One TMS 9902A.
+///
+/// True of every chip: at most 3 φ clocks have passed since the last internal clock, and its transmitter, receiver and timer are
+/// sound. `Acc::pins` says so in a clause.
 #[derive(Clone, Copy)]
 pub struct Acc {
     pub registers: Registers,
@@ -74,8 +82,21 @@ pub struct Acc {
     pub recovery: PhiCount,
 }
 
+impl Model for Acc {
+    ghost use Rattle.std.specs.Prelude.{◌≤◌};
+    ghost use Rattle.acc.specs.Fields.{AccFields};
+
+    ghost Value = { AccFields };
+
+    ghost view = { λ e. e };
+
+    ghost invariant = { λ e. e.divider.0 ≤ 3 };
+
+    ghost inverse = { λ e. e };
+}
+
 /// A received character with its flags.
-#[derive(Clone, Copy)]
+#[derive(Clone, Copy, Debug, PartialEq, Eq)]
 pub struct Received {
     pub character: u8,
     pub rfer: bool,
@@ -84,9 +105,40 @@ pub struct Received {
 }
 
 /// The pins that others see: XOUT, true at mark; RTS and INT, true where they are active.
-#[derive(Clone, Copy)]
+#[derive(Clone, Copy, Debug, PartialEq, Eq)]
 pub struct Pins {
     pub xout: bool,
     pub rts: bool,
     pub int: bool,
+}
+
+impl From<Receiver> for Received {
+    ghost from_gives = { λ r received. received ≡ record { character = r.buffer; rfer = r.rfer; rover = r.rover; rper = r.rper } };
+
+    fn from(receiver: Receiver) -> Received {
+        Received {
+            character: receiver.buffer,
+            rfer: receiver.rfer,
+            rover: receiver.rover,
+            rper: receiver.rper,
+        }
+    }
+}
+
+impl fmt::Display for Received {
+    ghost output = { λ r. Some (received_text r) };
+
+    fn fmt<W: fmt::Write>(&self, f: &mut fmt::Formatter<W>) -> fmt::Result {
+        let [rfer, rover, rper] = [self.rfer, self.rover, self.rper].map(u8::from);
+        write!(f, "{} {rfer} {rover} {rper}", self.character)
+    }
+}
+
+impl fmt::Display for Pins {
+    ghost output = { λ p. Some (pins_text p) };
+
+    fn fmt<W: fmt::Write>(&self, f: &mut fmt::Formatter<W>) -> fmt::Result {
+        let [xout, rts, int] = [self.xout, self.rts, self.int].map(u8::from);
+        write!(f, "{xout} {rts} {int}")
+    }
 }

@@ -1,171 +1,81 @@
-// Calls to one end.
-ghost use Rattle.std.specs.Prelude.{◌≡◌, true, ◌&&◌, Some, OnOk, nat_le};
-ghost use Rattle.acc.specs.Calls.{load_answer, load_of, take_answer, take_of, put_answer, put_of, get_answer};
-ghost use Rattle.pair.specs.Bench.{at_place, chip, with_chip, end_of};
+// Calls to one end. A host, which may be written in C, gives each number as it comes: causes 4 and 5 refuse those out of range.
+ghost use Rattle.std.specs.Prelude.{◌≡◌, true, OnOk};
+ghost use Rattle.pair.specs.Bench.{end_of};
 ghost use Rattle.pair.specs.Calls.{at_end, span_fits, load_reply, load_done, take_reply, take_done, put_reply, put_done, get_reply};
-ghost use Rattle.bench.specs.Ends.{admitted, asked_by, changed_by};
-ghost use Rattle.bench.specs.View.{bench_of};
+ghost use Rattle.bench.specs.Ends.{admitted};
 
 use crate::Bench;
 use acc::chip::Received;
 use cable::interface::Cable;
-use faults::{Cause, End, Fault, Place};
-use moments::rules::end_of;
-
-// A refusal at a call's end.
-fn refusal_at(end: End, cause: Cause) -> Fault
-    ensures { result ≡ at_place 0 (Some end) cause }
-{
-    Fault {
-        cause,
-        place: Place {
-            index: 0,
-            end: Some(end),
-        },
-    }
-}
+use faults::{Cause, End, Fault};
 
 // A chip's answer; its refusals get their place, the chip's end.
 fn at_end<T>(end: End, answer: Result<T, Cause>) -> Result<T, Fault>
     ensures { result ≡ at_end end answer }
 {
-    match answer {
-        Ok(value) => Ok(value),
-        Err(cause) => Err(refusal_at(end, cause)),
-    }
+    answer.map_err(|cause| cause.at(0, Some(end)))
 }
 
-// 1 to 16 bits that do not pass address 31.
+// 1 to 16 bits that do not pass address 31. The two numbers are what a host and a line of a script give: a struct of both would be made at
+// each call, to be taken apart here.
 fn span_fits(address: u32, count: u32) -> bool
     ensures { result ≡ span_fits address count }
 {
-    count >= 1 && count <= 16 && address <= 32 - count
+    (1..=16).contains(&count) && address <= 32 - count
 }
 
 impl<C: Cable> Bench<C> {
-    // The chips' own calls, which refuse without a place.
-    fn load_at(&mut self, end: End, character: u8) -> Result<(), Cause>
-        ensures answer { result ≡ load_answer (chip end (bench_of C.meaning self.old)) }
-        ensures state { bench_of C.meaning self.new ≡ with_chip end (load_of character (chip end (bench_of C.meaning self.old))) (bench_of C.meaning self.old) }
-    {
-        match end {
-            End::A => self.a.load(character),
-            End::B => self.b.load(character),
-        }
-    }
-
-    fn take_at(&mut self, end: End) -> Result<Received, Cause>
-        ensures answer { result ≡ take_answer (chip end (bench_of C.meaning self.old)) }
-        ensures state { bench_of C.meaning self.new ≡ with_chip end (take_of (chip end (bench_of C.meaning self.old))) (bench_of C.meaning self.old) }
-    {
-        match end {
-            End::A => self.a.take(),
-            End::B => self.b.take(),
-        }
-    }
-
-    fn put_at(&mut self, end: End, address: u8, count: u8, value: u16) -> Result<(), Cause>
-        ensures answer { result ≡ put_answer (chip end (bench_of C.meaning self.old)) }
-        ensures state { bench_of C.meaning self.new ≡ with_chip end (put_of address count value (chip end (bench_of C.meaning self.old))) (bench_of C.meaning self.old) }
-    {
-        match end {
-            End::A => self.a.put(address, count, value),
-            End::B => self.b.put(address, count, value),
-        }
-    }
-
-    fn get_at(&self, end: End, address: u8, count: u8) -> Result<u16, Cause>
-        ensures { result ≡ get_answer address count (chip end (bench_of C.meaning self.now)) }
-    {
-        match end {
-            End::A => self.a.get(address, count),
-            End::B => self.b.get(address, count),
-        }
-    }
-
     // The end that a host names, if its other numbers fit and the bench is open: causes 4, 5 and 9.
     fn admit(&self, end: u32, fits: bool) -> Result<End, Fault>
-        ensures answer { result ≡ admitted (end_of end) fits (bench_of C.meaning self.now) }
+        ensures answer { result ≡ admitted (end_of end) fits self.now.meaning }
         ensures fits { OnOk result (fits ≡ true) }
     {
-        let Some(end) = end_of(end) else {
-            return Err(Fault::unplaced(Cause::NoSuchEnd));
-        };
+        let end = End::try_from(end)?;
         if !fits {
-            return Err(refusal_at(end, Cause::OutOfRange));
+            return Err(Cause::OutOfRange.at(0, Some(end)));
         }
         if !self.is_open {
-            return Err(refusal_at(end, Cause::NotOpen));
+            return Err(Cause::NotOpen.at(0, Some(end)));
         }
         Ok(end)
     }
 
-    fn try_load(&mut self, end: u32, character: u32) -> Result<(), Fault>
-        ensures answer { result ≡ asked_by (end_of end) (nat_le character 255) load_answer (bench_of C.meaning self.old) }
-        ensures state { bench_of C.meaning self.new ≡ changed_by (end_of end) (nat_le character 255) (load_of character) (bench_of C.meaning self.old) }
+    /// Loads a character into the transmit buffer of an end. Refused by causes 4, 5, 9, 11, 12 and 13.
+    #[tactic(auto, using(crate::proofs::Kept::load_kept))]
+    pub fn load(&mut self, end: u32, character: u32) -> Result<(), Fault>
+        ensures answer { result ≡ load_reply end character self.old.meaning }
+        ensures state { self.new.meaning ≡ load_done end character self.old.meaning }
     {
         let end = self.admit(end, character <= 255)?;
-        at_end(end, self.load_at(end, character as u8))?;
-        Ok(())
-    }
-
-    fn try_take(&mut self, end: u32) -> Result<Received, Fault>
-        ensures answer { result ≡ asked_by (end_of end) true take_answer (bench_of C.meaning self.old) }
-        ensures state { bench_of C.meaning self.new ≡ changed_by (end_of end) true take_of (bench_of C.meaning self.old) }
-    {
-        let end = self.admit(end, true)?;
-        let received = at_end(end, self.take_at(end))?;
-        Ok(received)
-    }
-
-    fn try_put(&mut self, end: u32, address: u32, count: u32, value: u32) -> Result<(), Fault>
-        ensures answer { result ≡ asked_by (end_of end) (span_fits address count && nat_le value 65535) put_answer (bench_of C.meaning self.old) }
-        ensures state { bench_of C.meaning self.new ≡ changed_by (end_of end) (span_fits address count && nat_le value 65535) (put_of address count value) (bench_of C.meaning self.old) }
-    {
-        let end = self.admit(end, span_fits(address, count) && value <= 65535)?;
-        at_end(
-            end,
-            self.put_at(end, address as u8, count as u8, value as u16),
-        )?;
-        Ok(())
-    }
-
-    fn try_get(&self, end: u32, address: u32, count: u32) -> Result<u16, Fault>
-        ensures { result ≡ asked_by (end_of end) (span_fits address count) (get_answer address count) (bench_of C.meaning self.now) }
-    {
-        let end = self.admit(end, span_fits(address, count))?;
-        let bits = at_end(end, self.get_at(end, address as u8, count as u8))?;
-        Ok(bits)
-    }
-
-    /// Loads a character into the transmit buffer of an end. Refused by causes 4, 5, 9, 11, 12 and 13.
-    pub fn load(&mut self, end: u32, character: u32) -> Result<(), Fault>
-        ensures answer { result ≡ load_reply end character (bench_of C.meaning self.old) }
-        ensures state { bench_of C.meaning self.new ≡ load_done end character (bench_of C.meaning self.old) }
-    {
-        self.try_load(end, character)
+        at_end(end, self.chips.at_mut(end).load(character as u8))
     }
 
     /// Takes the received character of an end with its flags. Refused by causes 4, 9, 11 and 14.
+    #[tactic(auto, using(crate::proofs::Kept::take_kept))]
     pub fn take(&mut self, end: u32) -> Result<Received, Fault>
-        ensures answer { result ≡ take_reply end (bench_of C.meaning self.old) }
-        ensures state { bench_of C.meaning self.new ≡ take_done end (bench_of C.meaning self.old) }
+        ensures answer { result ≡ take_reply end self.old.meaning }
+        ensures state { self.new.meaning ≡ take_done end self.old.meaning }
     {
-        self.try_take(end)
+        let end = self.admit(end, true)?;
+        at_end(end, self.chips.at_mut(end).take())
     }
 
     /// Writes the low bits of a number to output bits of an end, upward from an address, lowest first. Refused by causes 4, 5, 9 and 11.
+    #[tactic(auto, using(crate::proofs::Kept::put_kept))]
     pub fn put(&mut self, end: u32, address: u32, count: u32, value: u32) -> Result<(), Fault>
-        ensures answer { result ≡ put_reply end address count value (bench_of C.meaning self.old) }
-        ensures state { bench_of C.meaning self.new ≡ put_done end address count value (bench_of C.meaning self.old) }
+        ensures answer { result ≡ put_reply end address count value self.old.meaning }
+        ensures state { self.new.meaning ≡ put_done end address count value self.old.meaning }
     {
-        self.try_put(end, address, count, value)
+        let end = self.admit(end, span_fits(address, count) && value <= 65535)?;
+        let chip = self.chips.at_mut(end);
+        at_end(end, chip.put(address as u8, count as u8, value as u16))
     }
 
     /// Reads input bits of an end, upward from an address, lowest first. Refused by causes 4, 5, 9 and 11.
     pub fn get(&self, end: u32, address: u32, count: u32) -> Result<u16, Fault>
-        ensures { result ≡ get_reply end address count (bench_of C.meaning self.now) }
+        ensures { result ≡ get_reply end address count self.now.meaning }
     {
-        self.try_get(end, address, count)
+        let end = self.admit(end, span_fits(address, count))?;
+        at_end(end, self.chips.at(end).get(address as u8, count as u8))
     }
 }

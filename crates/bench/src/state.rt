@@ -1,8 +1,8 @@
 // What a host sees of a bench at any time.
-ghost use Rattle.std.specs.Prelude.{◌≡◌};
+ghost use Rattle.std.specs.Prelude.{◌≡◌, ◌≤◌, true};
+ghost use Rattle.acc.specs.Sound.{sound};
 ghost use Rattle.acc.specs.Calls.{pins_of};
-ghost use Rattle.pair.specs.Bench.{chip};
-ghost use Rattle.bench.specs.View.{bench_of};
+ghost use Rattle.pair.specs.Bench.{chip, last_clock};
 
 use crate::Bench;
 use acc::chip::Pins;
@@ -12,24 +12,24 @@ use faults::End;
 impl<C: Cable> Bench<C> {
     /// The pins of an end that others see.
     pub fn pins(&self, end: End) -> Pins
-        ensures { result ≡ pins_of (chip end (bench_of C.meaning self.now)) }
+        ensures pins { result ≡ pins_of (chip end self.now.meaning) }
+        ensures sound { sound (chip end self.now.meaning) ≡ true }
     {
-        match end {
-            End::A => self.a.pins(),
-            End::B => self.b.pins(),
-        }
+        self.chips.at(end).pins()
     }
 
     /// The clock of the bench.
     pub fn clock(&self) -> u32
-        ensures { result ≡ (bench_of C.meaning self.now).clock }
+        ensures clock { result ≡ self.now.meaning.clock }
+        ensures in_time { result ≤ last_clock }
     {
         self.clock
     }
 
     /// Whether the bench was opened.
     pub fn is_open(&self) -> bool
-        ensures { result ≡ (bench_of C.meaning self.now).is_open }
+        ensures open { result ≡ self.now.meaning.is_open }
+        ensures cable { C.meaning self.now.cable ≡ self.now.meaning.channels }
     {
         self.is_open
     }

@@ -1,3 +1,5 @@
+pub mod HandedOut
+pub mod Rising
 pub mod Rotation
 pub mod Striking
-pub mod HandedOut
+pub mod Turned

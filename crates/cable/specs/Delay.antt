@@ -35,7 +35,7 @@ waiting_in l = rotated l.head (take l.len l.pairs)
 
 -- what a delaying cable means
 abbrev pub delaying_channels : Delaying → Channels
-delaying_channels c = both_unflipped (waiting_in c.toward_b) (waiting_in c.toward_a)
+delaying_channels c = both_unflipped (waiting_in c.lines.toward_b) (waiting_in c.lines.toward_a)
 
 -- n pairs, all mark and inactive
 abbrev pub idle : ℕ → List Pair

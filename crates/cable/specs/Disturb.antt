@@ -22,7 +22,7 @@ flipped_in t = flipped t.elapsed t.left.now
 
 -- what a disturbed cable means
 abbrev pub disturbed_channels : Disturbed → Channels
-disturbed_channels d = record { toward_b = flipped_in d.toward_b; toward_a = flipped_in d.toward_a }
+disturbed_channels d = record { toward_b = flipped_in d.tracks.toward_b; toward_a = flipped_in d.tracks.toward_a }
 
 -- what it means once its flips are set
 abbrev pub flips_channels : List ℕ → List ℕ → Channels

@@ -1,3 +1,4 @@
+pub mod BothWays
 pub mod Channels
 pub mod Delay
 pub mod Disturb

@@ -2,6 +2,7 @@
 ghost use Rattle.std.specs.Prelude.{◌≡◌, MatchResult};
 ghost use Rattle.cable.specs.Delay.{delaying_channels, unflipped_lawful, waiting_in, idle_channels, length_allowed, lengths_answer};
 
+use crate::both_ways::BothWays;
 use crate::direction::Direction;
 use crate::interface::Cable;
 use crate::line::Line;
@@ -10,8 +11,7 @@ use faults::{Cause, Fault};
 /// A cable in which 1 to 64 pairs wait in each direction, at first all mark and inactive.
 #[derive(Clone, Copy)]
 pub struct Delaying {
-    toward_b: Line,
-    toward_a: Line,
+    lines: BothWays<Line>,
 }
 
 impl Delaying {
@@ -20,8 +20,10 @@ impl Delaying {
         ensures { delaying_channels result ≡ idle_channels 1 1 }
     {
         Delaying {
-            toward_b: Line::idle(1),
-            toward_a: Line::idle(1),
+            lines: BothWays {
+                toward_b: Line::idle(1),
+                toward_a: Line::idle(1),
+            },
         }
     }
 
@@ -31,9 +33,9 @@ impl Delaying {
         ensures state { MatchResult result (λ _. delaying_channels self.new ≡ idle_channels toward_b toward_a) (λ _. self.new ≡ self.old) }
     {
         if !is_length(toward_b) || !is_length(toward_a) {
-            return Err(Fault::unplaced(Cause::OutOfRange));
+            return Err(Fault::from(Cause::OutOfRange));
         }
-        *self = Delaying {
+        self.lines = BothWays {
             toward_b: Line::idle(toward_b as usize),
             toward_a: Line::idle(toward_a as usize),
         };
@@ -44,29 +46,23 @@ impl Delaying {
 fn is_length(n: u32) -> bool
     ensures { result ≡ length_allowed n }
 {
-    1 <= n && n <= 64
+    (1..=64).contains(&n)
 }
 
 impl Cable for Delaying {
     ghost meaning = { delaying_channels };
 
-    ghost lawful = { λ c. unflipped_lawful (waiting_in c.toward_b) (waiting_in c.toward_a) };
-
     fn step(&mut self, direction: Direction, pair: (bool, bool)) -> (bool, bool) {
-        match direction {
-            Direction::TowardB => self.toward_b.pass(pair),
-            Direction::TowardA => self.toward_a.pass(pair),
-        }
+        self.lines.at_mut(direction).pass(pair)
     }
 
     fn delay(&self, direction: Direction) -> u32 {
-        match direction {
-            Direction::TowardB => self.toward_b.delay(),
-            Direction::TowardA => self.toward_a.delay(),
-        }
+        self.lines.at(direction).delay()
     }
 
     fn clear(&self) -> bool {
-        self.toward_b.clear() && self.toward_a.clear()
+        self.lines.toward_b.clear() && self.lines.toward_a.clear()
     }
+
+    ghost lawful = { λ c. unflipped_lawful (waiting_in c.lines.toward_b) (waiting_in c.lines.toward_a) };
 }

@@ -1,19 +1,17 @@
 // The cable that turns over the data level of some pairs.
-ghost use Rattle.std.specs.Prelude.{◌≡◌, [], MatchResult};
+ghost use Rattle.std.specs.Prelude.{◌≡◌, [], MatchResult, nat_lt};
 ghost use Rattle.cable.specs.Disturb.{disturbed_channels, disturbed_lawful, flips_channels, list_allowed, flips_answer};
 
+use crate::both_ways::BothWays;
 use crate::direction::Direction;
-use crate::facts::nothing_waits;
 use crate::interface::Cable;
-use crate::rising::rises;
 use crate::track::Track;
 use faults::{Cause, Fault};
 
 /// A cable in which nothing waits, and that turns over the data level at the steps of two lists that are lent to it.
 #[derive(Clone, Copy)]
 pub struct Disturbed<'a> {
-    toward_b: Track<'a>,
-    toward_a: Track<'a>,
+    tracks: BothWays<Track<'a>>,
 }
 
 impl<'a> Disturbed<'a> {
@@ -22,8 +20,10 @@ impl<'a> Disturbed<'a> {
         ensures { disturbed_channels result ≡ flips_channels [] [] }
     {
         Disturbed {
-            toward_b: Track::new(&[]),
-            toward_a: Track::new(&[]),
+            tracks: BothWays {
+                toward_b: Track::new(&[]),
+                toward_a: Track::new(&[]),
+            },
         }
     }
 
@@ -34,9 +34,9 @@ impl<'a> Disturbed<'a> {
         ensures state { MatchResult result (λ _. disturbed_channels self.new ≡ flips_channels toward_b.now toward_a.now) (λ _. self.new ≡ self.old) }
     {
         if !is_list(toward_b) || !is_list(toward_a) {
-            return Err(Fault::unplaced(Cause::OutOfRange));
+            return Err(Fault::from(Cause::OutOfRange));
         }
-        *self = Disturbed {
+        self.tracks = BothWays {
             toward_b: Track::new(toward_b),
             toward_a: Track::new(toward_a),
         };
@@ -48,27 +48,27 @@ impl<'a> Disturbed<'a> {
 fn is_list(list: &[u32]) -> bool
     ensures { result ≡ list_allowed list.now }
 {
-    list.len() <= 4096 && rises(list)
+    let is_below = |number: &u32, next: &u32| -> bool
+        ensures { result ≡ nat_lt number.now next.now }
+    { number < next };
+    list.len() <= 4096 && list.is_sorted_by(is_below)
 }
 
 impl<'a> Cable for Disturbed<'a> {
     ghost meaning = { disturbed_channels };
 
-    ghost lawful = { disturbed_lawful };
-
     fn step(&mut self, direction: Direction, pair: (bool, bool)) -> (bool, bool) {
-        match direction {
-            Direction::TowardB => self.toward_b.pass(pair),
-            Direction::TowardA => self.toward_a.pass(pair),
-        }
+        self.tracks.at_mut(direction).pass(pair)
     }
 
     fn delay(&self, direction: Direction) -> u32 {
         0
     }
 
+    #[tactic(auto, unfolding(crate::specs::Channels::all_mark))]
     fn clear(&self) -> bool {
-        nothing_waits();
         true
     }
+
+    ghost lawful = { disturbed_lawful };
 }

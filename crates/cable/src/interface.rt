@@ -9,9 +9,6 @@ pub trait Cable {
     // the waiting pairs and the flips of each direction
     ghost meaning: { Self → Channels };
 
-    // each flip has a place on the cable, and a position not below it
-    ghost lawful: { (c : Self) → Lawful (meaning c) };
-
     /// Takes a pair in one direction and hands one out there. The other direction stays as it is.
     fn step(&mut self, direction: Direction, pair: (bool, bool)) -> (bool, bool)
         ensures hands { result ≡ handed (channel direction (meaning self.old)) pair }
@@ -24,4 +21,7 @@ pub trait Cable {
     /// Whether every waiting data level, both ways, is mark.
     fn clear(&self) -> bool
         ensures { result ≡ is_clear (meaning self.now) };
+
+    // each flip has a place on the cable, and a position not below it
+    ghost lawful: { (c : Self) → Lawful (meaning c) };
 }

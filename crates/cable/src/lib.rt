@@ -1,13 +1,12 @@
 // Cables between two boards, behind one interface.
 #![tactic(auto)]
 
+mod both_ways;
 pub mod delaying;
 pub mod direction;
 pub mod disturbed;
-mod facts;
 pub mod interface;
 pub mod line;
 pub mod passing;
-mod rising;
 pub mod straight;
 pub mod track;

@@ -3,7 +3,6 @@ ghost use Rattle.std.specs.Prelude.{[]};
 ghost use Rattle.cable.specs.Delay.{straight_channels, unflipped_lawful};
 
 use crate::direction::Direction;
-use crate::facts::{nothing_waits, straight_through};
 use crate::interface::Cable;
 
 /// A cable that hands out each pair in the step in which it enters.
@@ -13,10 +12,8 @@ pub struct Straight;
 impl Cable for Straight {
     ghost meaning = { λ _. straight_channels };
 
-    ghost lawful = { λ _. unflipped_lawful [] [] };
-
+    #[tactic(auto, unfolding(crate::specs::Channels::handed, crate::specs::Channels::stepped, crate::specs::Channels::struck, crate::specs::Channels::remaining))]
     fn step(&mut self, direction: Direction, pair: (bool, bool)) -> (bool, bool) {
-        straight_through(pair);
         pair
     }
 
@@ -24,8 +21,10 @@ impl Cable for Straight {
         0
     }
 
+    #[tactic(auto, unfolding(crate::specs::Channels::all_mark))]
     fn clear(&self) -> bool {
-        nothing_waits();
         true
     }
+
+    ghost lawful = { λ _. unflipped_lawful [] [] };
 }

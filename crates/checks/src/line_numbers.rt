@@ -1,27 +1,9 @@
 // Registers, half-bit counts, parity and deadlines.
-use faults::Fault;
+use crate::benches::numbers;
 use timing::calls::{deadline, half_bit_count};
+use timing::counts::{InternalCount, PhiCount};
 use timing::ones::{odd_ones, parity_bit_of};
 use timing::registers::{CharacterLength, Control, Format, Parity};
-
-// A refusal by cause 5 that concerns no event and no end.
-fn is_out_of_range(fault: Fault) -> bool {
-    fault.cause.number() == 5 && fault.place.index == 0 && fault.place.end_number() == 2
-}
-
-fn half_bit_is(rate: u32, expected: u32) -> bool {
-    match half_bit_count(rate) {
-        Ok(count) => count.0 == expected,
-        Err(_) => false,
-    }
-}
-
-fn half_bit_refused(rate: u32) -> bool {
-    match half_bit_count(rate) {
-        Ok(_) => false,
-        Err(fault) => is_out_of_range(fault),
-    }
-}
 
 #[test]
 fn half_bit_counts(rt: HostRuntime) {
@@ -34,30 +16,10 @@ fn half_bit_counts(rt: HostRuntime) {
         (1023, 1023),
         (1025, 8),
     ] {
-        assert!(rt;
-            half_bit_is(rate, expected),
-            "a rate has another half-bit count"
-        );
+        assert_eq!(rt; half_bit_count(rate), Ok(InternalCount(expected)));
     }
     for rate in [2048, 65536, 4294967295] {
-        assert!(rt;
-            half_bit_refused(rate),
-            "a rate over 2047 is not refused by cause 5"
-        );
-    }
-}
-
-fn deadline_is(control: u32, rate: u32, delay: u32, expected: u64) -> bool {
-    match deadline(control, rate, delay) {
-        Ok(clocks) => clocks.0 == expected,
-        Err(_) => false,
-    }
-}
-
-fn deadline_refused(control: u32, rate: u32, delay: u32) -> bool {
-    match deadline(control, rate, delay) {
-        Ok(_) => false,
-        Err(fault) => is_out_of_range(fault),
+        assert_eq!(rt; half_bit_count(rate).map_err(numbers), Err((5, 0, 2)));
     }
 }
 
@@ -69,10 +31,7 @@ fn deadlines(rt: HostRuntime) {
         (162, 417, 12, 23787),
         (59, 1024, 65535, 753671),
     ] {
-        assert!(rt;
-            deadline_is(control, rate, delay, expected),
-            "a line has another deadline"
-        );
+        assert_eq!(rt; deadline(control, rate, delay), Ok(PhiCount(expected)));
     }
     for (control, rate, delay) in [
         (256, 1, 0),
@@ -80,9 +39,9 @@ fn deadlines(rt: HostRuntime) {
         (131, 1, 65536),
         (4294967295, 4294967295, 4294967295),
     ] {
-        assert!(rt;
-            deadline_refused(control, rate, delay),
-            "a number outside its range is not refused by cause 5"
+        assert_eq!(rt;
+            deadline(control, rate, delay).map_err(numbers),
+            Err((5, 0, 2))
         );
     }
 }
@@ -99,7 +58,7 @@ fn control_registers(rt: HostRuntime) {
         (251, 8, 1, 2, 4),
     ];
     for (register, bits, parity, stop, q) in rows {
-        let control = Control::of(register);
+        let control = Control::from(register);
         assert_eq!(rt; control.format.length.bits(), bits);
         assert_eq!(rt; control.format.parity.bits(), parity);
         assert_eq!(rt; control.stop.half_bits(), stop);

@@ -1,30 +1,20 @@
 // Refusals as people read them.
-use faults::{Cause, End, Fault, Place};
+use faults::{Cause, End, Fault};
 use std::test::Fail;
-
-fn fault_at(cause: Cause, index: u32, end: End) -> Fault {
-    Fault {
-        cause,
-        place: Place {
-            index,
-            end: Some(end),
-        },
-    }
-}
 
 #[test]
 fn a_refusal_says_what_and_where(rt: HostRuntime) -> Result<(), Fail> {
-    let plain = format!(in rt.alloc(); "{}", Fault::unplaced(Cause::OutOfRange))?;
+    let plain = format!(in rt.alloc(); "{}", Fault::from(Cause::OutOfRange))?;
     assert_eq!(rt;
         plain.as_str(),
         "a number, a length or a list is outside its range (cause 5, event index 0, no end)"
     );
-    let taken = format!(in rt.alloc(); "{}", fault_at(Cause::NothingReceived, 0, End::B))?;
+    let taken = format!(in rt.alloc(); "{}", Cause::NothingReceived.at(0, Some(End::B)))?;
     assert_eq!(rt;
         taken.as_str(),
         "no received character waits (cause 14, event index 0, end B)"
     );
-    let event = format!(in rt.alloc(); "{}", fault_at(Cause::RepeatedDsr, 31, End::A))?;
+    let event = format!(in rt.alloc(); "{}", Cause::RepeatedDsr.at(31, Some(End::A)))?;
     assert_eq!(rt;
         event.as_str(),
         "the moment sets DSR of one end twice (cause 7, event index 31, end A)"
@@ -50,10 +40,8 @@ fn causes_count_from_one(rt: HostRuntime) {
         Cause::BufferFull,
         Cause::NothingReceived,
     ];
-    let mut expected = 0u32;
-    for cause in causes {
-        expected = expected.saturating_add(1);
-        assert_eq!(rt; cause.number(), expected);
+    assert_eq!(rt; causes.len(), 14);
+    for (expected, cause) in (1..).zip(causes) {
+        assert_eq!(rt; u32::from(cause), expected);
     }
-    assert_eq!(rt; expected, 14);
 }

@@ -1,5 +1,7 @@
 // A line of input as a call.
 use acc::chip::Registers;
+use arrayvec::ArrayVec;
+use console::numbers::read_number;
 
 /// The calls, with their numbers in range.
 #[derive(Clone, Copy)]
@@ -12,36 +14,6 @@ pub(crate) enum Command {
     Get(u8, u8),
     Load(u8),
     Take,
-}
-
-// The numbers behind the letter, at most four, and how many there are.
-#[derive(Clone, Copy)]
-struct Fields {
-    numbers: [u32; 4],
-    count: usize,
-}
-
-// Decimal digits, without a sign.
-fn read_number(text: &str) -> Option<u32> {
-    if text.starts_with("+") {
-        return None;
-    }
-    text.parse::<u32>().ok()
-}
-
-fn read_fields(line: &str) -> Option<Fields> {
-    let mut fields = Fields {
-        numbers: [0; 4],
-        count: 0,
-    };
-    for text in line.split_whitespace().skip(1) {
-        if fields.count >= 4 {
-            return None;
-        }
-        fields.numbers[fields.count] = read_number(text)?;
-        fields.count += 1;
-    }
-    Some(fields)
 }
 
 fn bit(n: u32) -> Option<bool> {
@@ -57,10 +29,11 @@ fn byte(n: u32) -> Option<u8> {
 }
 
 fn rate(n: u32) -> Option<u16> {
-    if n > 2047 {
-        return None;
-    }
-    u16::try_from(n).ok()
+    u16::try_from(n).ok().filter(|rate| *rate <= 2047)
+}
+
+fn address(n: u32) -> Option<u8> {
+    byte(n).filter(|address| *address <= 31)
 }
 
 // An address, and a count of bits that does not pass the last.
@@ -71,38 +44,36 @@ fn span(address: u32, count: u32) -> Option<(u8, u8)> {
     Some((byte(address)?, byte(count)?))
 }
 
-fn address(n: u32) -> Option<u8> {
-    if n > 31 {
-        return None;
-    }
-    byte(n)
-}
-
+/// A letter and as many decimal numbers as its call has, each behind white space.
 pub(crate) fn read_command(line: &[u8]) -> Option<Command> {
     let text = std::str::from_utf8(line).ok()?;
-    let letter = text.split_whitespace().next()?;
-    let fields = read_fields(text)?;
-    let [a, b, c, d] = fields.numbers;
-    match (letter, fields.count) {
-        ("O", 4) => Some(Command::Open(Registers {
-            control: byte(a)?,
-            transmit_rate: rate(b)?,
-            receive_rate: rate(c)?,
-            interval: byte(d)?,
+    let mut words = text.split_whitespace();
+    let letter = words.next()?;
+    let mut numbers = ArrayVec::<u32, 4>::new();
+    for word in words {
+        let number = read_number(word, 10).ok()?;
+        numbers.try_push(number).ok()?;
+    }
+    match (letter, numbers.as_slice()) {
+        ("O", [control, transmit_rate, receive_rate, interval]) => Some(Command::Open(Registers {
+            control: byte(*control)?,
+            transmit_rate: rate(*transmit_rate)?,
+            receive_rate: rate(*receive_rate)?,
+            interval: byte(*interval)?,
         })),
-        ("W", 2) => Some(Command::Write(address(a)?, bit(b)?)),
-        ("C", 3) => Some(Command::Clock(a, bit(b)?, bit(c)?)),
-        ("D", 1) => Some(Command::SetDsr(bit(a)?)),
-        ("P", 3) => {
-            let (from, count) = span(a, b)?;
-            Some(Command::Put(from, count, u16::try_from(c).ok()?))
+        ("W", [at, value]) => Some(Command::Write(address(*at)?, bit(*value)?)),
+        ("C", [n, rin, cts]) => Some(Command::Clock(*n, bit(*rin)?, bit(*cts)?)),
+        ("D", [active]) => Some(Command::SetDsr(bit(*active)?)),
+        ("P", [from, count, value]) => {
+            let (from, count) = span(*from, *count)?;
+            Some(Command::Put(from, count, u16::try_from(*value).ok()?))
         }
-        ("G", 2) => {
-            let (from, count) = span(a, b)?;
+        ("G", [from, count]) => {
+            let (from, count) = span(*from, *count)?;
             Some(Command::Get(from, count))
         }
-        ("L", 1) => Some(Command::Load(byte(a)?)),
-        ("T", 0) => Some(Command::Take),
+        ("L", [character]) => Some(Command::Load(byte(*character)?)),
+        ("T", []) => Some(Command::Take),
         _ => None,
     }
 }

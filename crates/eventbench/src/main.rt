@@ -1,56 +1,59 @@
 // Drives benches over all three cables from standard input, call by call, with events in their moments.
 #![tactic(auto)]
 
-use std::io::{BufRead, BufReader};
+use std::io;
 
 mod answers;
 mod session;
 
-use bench::Bench;
+use answers::show_done;
 use cable::delaying::Delaying;
 use cable::disturbed::Disturbed;
+use cable::interface::Cable;
 use cable::straight::Straight;
-use session::{Session, read_numbers};
+use console::lines::for_each_line;
+use faults::Fault;
+use session::{Session, first_numbers, flips, read_numbers};
 
-// The lines that begin with C make a cable; those up to the next one are calls of a bench over it.
-fn begin(rt: &HostRuntime, line: &[u8], rest: &[Vec<u8>]) -> anyhow::Result<()> {
-    let numbers = read_numbers(rt.alloc(), line)?;
-    let numbers = numbers.as_slice();
-    if line.starts_with(b"C d") {
-        let mut cable = Delaying::new();
-        answers::show(
-            rt,
-            cable.set_lengths(session::at(numbers, 0), session::at(numbers, 1)),
-        )?;
-        let mut session = Session::new(Bench::new(cable));
-        return session.run(rt, rest);
-    }
-    if line.starts_with(b"C f") {
-        let (toward_b, toward_a) = session::flips(numbers);
-        let mut cable = Disturbed::new();
-        answers::show(rt, cable.set_flips(toward_b, toward_a))?;
-        let mut session = Session::new(Bench::new(cable));
-        return session.run(rt, rest);
-    }
-    answers::show(rt, Ok(()))?;
-    let mut session = Session::new(Bench::new(Straight));
-    session.run(rt, rest)
+// Shows whether a cable was set, and serves the calls of a bench over it.
+fn serve<C: Cable + Drop>(
+    rt: &(impl Print + AllocGlobal),
+    cable: C,
+    setting: Result<(), Fault>,
+    calls: &[Vec<u8>],
+) -> io::Result<()> {
+    show_done(rt, setting)?;
+    Session::new(cable).run(rt, calls)
 }
 
-fn run_lines(rt: &HostRuntime) -> anyhow::Result<()> {
-    let mut lines = Vec::new(rt.alloc());
-    for line in BufReader::new(rt.alloc(), rt.stdin())?.split(rt.alloc(), 10) {
-        lines.push(line?)?;
+// A line that begins with C makes a cable.
+fn begin(rt: &(impl Print + AllocGlobal), line: &[u8], calls: &[Vec<u8>]) -> io::Result<()> {
+    let numbers = read_numbers(rt.alloc(), line)?;
+    if line.starts_with(b"C d") {
+        let [toward_b, toward_a]: [u32; 2] = first_numbers(numbers.as_slice());
+        let mut cable = Delaying::new();
+        let setting = cable.set_lengths(toward_b, toward_a);
+        serve(rt, cable, setting, calls)
+    } else if line.starts_with(b"C f") {
+        let (toward_b, toward_a) = flips(numbers.as_slice());
+        let mut cable = Disturbed::new();
+        let setting = cable.set_flips(toward_b, toward_a);
+        serve(rt, cable, setting, calls)
+    } else {
+        serve(rt, Straight, Ok(()), calls)
     }
-    let lines = lines.as_slice();
-    for i in 0..lines.len() {
-        if lines[i].as_slice().starts_with(b"C") {
-            begin(rt, lines[i].as_slice(), &lines[i + 1..])?;
-        }
-    }
-    Ok(())
 }
 
 fn main(rt: HostRuntime) -> anyhow::Result<()> {
-    run_lines(&rt)
+    let mut lines = Vec::new(rt.alloc());
+    for_each_line(rt.alloc(), rt.stdin(), |_, line| Ok(lines.push(line)?))?;
+    // each line that makes a cable stands before the calls of a bench over it
+    for group in lines.chunk_by(|_, line| !line.starts_with(b"C")) {
+        if let [line, calls @ ..] = group
+            && line.starts_with(b"C")
+        {
+            begin(&rt, line.as_slice(), calls)?;
+        }
+    }
+    Ok(())
 }

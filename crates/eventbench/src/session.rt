@@ -1,57 +1,53 @@
 // The calls of one bench.
-use crate::answers;
+use crate::answers::{Served, show, show_done};
 use bench::Bench;
 use cable::interface::Cable;
 use faults::End;
 use pair::event::Event;
+use pair::opening::Opening;
 use std::alloc::{AllocError, Global};
-use std::io;
+use std::{array, io};
 
-// The numbers of a line, in order; its letters are no numbers.
-pub(crate) fn read_numbers(heap: Global, line: &[u8]) -> anyhow::Result<Vec<u32>> {
-    let mut numbers = Vec::new(heap);
-    let Ok(text) = std::str::from_utf8(line) else {
-        return Ok(numbers);
-    };
-    for word in text.split_whitespace() {
-        if let Ok(number) = word.parse::<u32>() {
-            numbers.push(number)?;
-        }
-    }
-    Ok(numbers)
+/// The numbers of a line, in order; its letters are no numbers.
+pub(crate) fn read_numbers(heap: Global, line: &[u8]) -> Result<Vec<u32>, AllocError> {
+    std::str::from_utf8(line)
+        .unwrap_or("")
+        .split_whitespace()
+        .filter_map(|word| word.parse::<u32>().ok())
+        .collect(heap)
 }
 
-// A number of the line, or 0 where it has none.
-pub(crate) fn at(numbers: &[u32], i: usize) -> u32 {
-    if i < numbers.len() { numbers[i] } else { 0 }
+/// The first numbers of a line; one that it has not is 0, so that any line is a call, and what it prints does not change.
+pub(crate) fn first_numbers<const N: usize>(numbers: &[u32]) -> [u32; N] {
+    array::from_fn(|i| numbers.get(i).copied().unwrap_or(0))
 }
 
-// A count and as many numbers, and what follows them.
+// A count and as many numbers, and what follows them; nothing where they are fewer.
 fn counted(numbers: &[u32]) -> (&[u32], &[u32]) {
-    let count = at(numbers, 0) as usize;
-    if count >= numbers.len() {
-        return (&[], &[]);
-    }
-    (&numbers[1..count + 1], &numbers[count + 1..])
+    numbers
+        .split_first()
+        .and_then(|(count, others)| others.split_at_checked(*count as usize))
+        .unwrap_or((&[], &[]))
 }
 
-// The two lists of flips.
+/// The two lists of flips.
 pub(crate) fn flips(numbers: &[u32]) -> (&[u32], &[u32]) {
-    let (toward_b, rest) = counted(numbers);
-    let (toward_a, _) = counted(rest);
+    let (toward_b, others) = counted(numbers);
+    let (toward_a, _) = counted(others);
     (toward_b, toward_a)
 }
 
-// The events behind their count, four numbers each.
-fn read_events(heap: Global, numbers: &[u32]) -> anyhow::Result<Vec<Event>> {
+// The events behind their count, four numbers each; one that is missing is 0.
+fn read_events(heap: Global, numbers: &[u32]) -> Result<Vec<Event>, AllocError> {
+    let mut numbers = numbers.iter().copied();
+    let mut next = || numbers.next().unwrap_or(0);
     let mut events = Vec::new(heap);
-    for i in 0..at(numbers, 0) {
-        let from = 4 * i as usize + 1;
+    for _ in 0..next() {
         events.push(Event {
-            end: at(numbers, from),
-            kind: at(numbers, from + 1),
-            address: at(numbers, from + 2),
-            value: at(numbers, from + 3),
+            end: next(),
+            kind: next(),
+            address: next(),
+            value: next(),
             served: 0,
         })?;
     }
@@ -64,67 +60,55 @@ pub(crate) struct Session<C: Cable> {
 }
 
 impl<C: Cable> Session<C> {
-    pub(crate) fn new(bench: Bench<C>) -> Session<C> {
-        Session { bench }
+    pub(crate) fn new(cable: C) -> Session<C> {
+        Session {
+            bench: Bench::new(cable),
+        }
     }
 
-    fn moment(&mut self, rt: &HostRuntime, numbers: &[u32]) -> anyhow::Result<()> {
+    fn moment(&mut self, rt: &(impl Print + AllocGlobal), numbers: &[u32]) -> io::Result<()> {
         let mut events = read_events(rt.alloc(), numbers)?;
         let answer = self.bench.moment(events.as_mut_slice());
-        answers::show_served(rt, answer, events.as_slice())?;
-        Ok(())
+        show(rt, answer.map(|()| Served(events.as_slice())))
     }
 
-    fn pins(&self, rt: &HostRuntime, end: u32) -> io::Result<()> {
-        if !self.bench.is_open() {
-            return println!(rt; "-");
-        }
-        let end = if end == 0 { End::A } else { End::B };
-        answers::show_pins(rt, self.bench.pins(end))
-    }
-
-    fn clock(&self, rt: &HostRuntime) -> io::Result<()> {
-        if !self.bench.is_open() {
-            return println!(rt; "-");
-        }
-        let clock = self.bench.clock();
-        println!(rt; "{clock}")
-    }
-
-    fn call(&mut self, rt: &HostRuntime, letter: u8, numbers: &[u32]) -> anyhow::Result<()> {
-        let [a, b, c, d, e] = [
-            at(numbers, 0),
-            at(numbers, 1),
-            at(numbers, 2),
-            at(numbers, 3),
-            at(numbers, 4),
-        ];
-        match letter as char {
-            'O' => answers::show(rt, self.bench.open(a, b, c, d, e))?,
-            'E' => self.moment(rt, numbers)?,
-            'M' => answers::show(rt, self.bench.moments(a))?,
-            'P' => answers::show(rt, self.bench.put(a, b, c, d))?,
-            'G' => answers::show_number(rt, self.bench.get(a, b, c))?,
-            'L' => answers::show(rt, self.bench.load(a, b))?,
-            'T' => answers::show_received(rt, self.bench.take(a))?,
-            'S' => self.pins(rt, a)?,
-            'K' => self.clock(rt)?,
-            _ => {}
-        }
-        Ok(())
-    }
-
-    // The lines up to the next cable.
-    pub(crate) fn run(&mut self, rt: &HostRuntime, lines: &[Vec<u8>]) -> anyhow::Result<()> {
-        for line in lines {
-            let line = line.as_slice();
-            if line.len() > 0 {
-                if line[0] == b'C' {
-                    return Ok(());
-                }
-                let numbers = read_numbers(rt.alloc(), line)?;
-                self.call(rt, line[0], numbers.as_slice())?;
+    // A line is a letter, and the numbers of its call.
+    fn call(&mut self, rt: &(impl Print + AllocGlobal), line: &[u8]) -> io::Result<()> {
+        let numbers = read_numbers(rt.alloc(), line)?;
+        let [a, b, c, d, e]: [u32; 5] = first_numbers(numbers.as_slice());
+        let bench = &mut self.bench;
+        match line {
+            [b'O', ..] => {
+                let opening = Opening {
+                    start: a,
+                    control: b,
+                    x: c,
+                    r: d,
+                    interval: e,
+                };
+                show_done(rt, bench.open(opening))
             }
+            [b'E', ..] => self.moment(rt, numbers.as_slice()),
+            [b'M', ..] => show_done(rt, bench.moments(a)),
+            [b'P', ..] => show_done(rt, bench.put(a, b, c, d)),
+            [b'G', ..] => show(rt, bench.get(a, b, c)),
+            [b'L', ..] => show_done(rt, bench.load(a, b)),
+            [b'T', ..] => show(rt, bench.take(a)),
+            [b'S' | b'K', ..] if !bench.is_open() => println!(rt; "-"),
+            // a number that names no end stands for B
+            [b'S', ..] => rt.println(bench.pins(End::try_from(a).unwrap_or(End::B))),
+            [b'K', ..] => rt.println(bench.clock()),
+            _ => Ok(()),
+        }
+    }
+
+    pub(crate) fn run(
+        &mut self,
+        rt: &(impl Print + AllocGlobal),
+        calls: &[Vec<u8>],
+    ) -> io::Result<()> {
+        for line in calls {
+            self.call(rt, line.as_slice())?;
         }
         Ok(())
     }

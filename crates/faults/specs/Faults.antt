@@ -1,5 +1,5 @@
 -- Refusals: their causes, numbers, places and words. Assumes nothing.
-use Rattle.std.specs.Prelude.{ℕ, List, ◌++◌, Some, None, codes, decimal, Option}
+use Rattle.std.specs.Prelude.{ℕ, cond, List, ◌++◌, Some, None, Ok, Err, codes, decimal, Option, Result, ◌==◌}
 use Rattle.faults.specs.declared.End.{End}
 use Rattle.faults.specs.declared.End.TheVariants as end
 use Rattle.faults.specs.declared.Cause.{Cause}
@@ -10,6 +10,18 @@ use Rattle.faults.specs.declared.Fault.{Fault}
 abbrev pub end_number : End → ℕ
 end_number end.A = 0
 end_number end.B = 1
+
+-- a host's number of an end
+abbrev pub end_of : ℕ → Option End
+end_of n = cond (n == 0) (Some end.A) (cond (n == 1) (Some end.B) None)
+
+-- the end that it names, or cause 4
+abbrev pub named : Option End → Result End Cause
+named (Some e) = Ok e
+named None = Err NoSuchEnd
+
+abbrev pub end_numbered : ℕ → Result End Cause
+end_numbered n = named (end_of n)
 
 -- the causes in their checking order
 abbrev pub cause_number : Cause → ℕ
@@ -57,9 +69,13 @@ end_text (Some end.A) = codes "end A"
 end_text (Some end.B) = codes "end B"
 end_text None = codes "no end"
 
+-- a refusal at an event, and at an end or at none
+abbrev pub at_place : ℕ → Option End → Cause → Fault
+at_place index e c = record { cause = c; place = record { index = index; end = e } }
+
 -- a refusal that concerns no event and no end
 abbrev pub unplaced : Cause → Fault
-unplaced c = record { cause = c; place = record { index = 0; end = None } }
+unplaced c = at_place 0 None c
 
 -- a cause's text and number, an event's index and an end's text, as people read them
 abbrev pub told : List ℕ → ℕ → ℕ → List ℕ → List ℕ

@@ -2,71 +2,75 @@
 #![tactic(auto)]
 
 ghost use Rattle.std.specs.Prelude.{◌≡◌, Some};
-ghost use Rattle.faults.specs.Faults.{end_number, cause_number, cause_text, place_end, end_text, unplaced, sentence};
+ghost use Rattle.faults.specs.Faults.{end_number, end_numbered, cause_number, cause_text, place_end, end_text, at_place, unplaced, sentence};
 
 use std::fmt;
 
 /// One of the two ends of a bench.
-#[derive(Clone, Copy)]
+#[derive(Clone, Copy, Debug, PartialEq, Eq)]
 pub enum End {
-    A,
-    B,
+    A = 0,
+    B = 1,
 }
 
-impl End {
-    /// A is 0, B is 1.
-    pub fn number(self) -> u32
-        ensures { result ≡ end_number self }
-    {
-        match self {
-            End::A => 0,
-            End::B => 1,
+impl From<End> for u32 {
+    ghost from_gives = { λ end number. number ≡ end_number end };
+
+    fn from(end: End) -> u32 {
+        end as u32
+    }
+}
+
+impl TryFrom<u32> for End {
+    type Error = Cause;
+
+    ghost try_from_gives = { λ number end. end ≡ end_numbered number };
+
+    fn try_from(number: u32) -> Result<End, Cause> {
+        match number {
+            0 => Ok(End::A),
+            1 => Ok(End::B),
+            _ => Err(Cause::NoSuchEnd),
         }
     }
 }
 
-/// The causes of a refusal, in the order in which they are tested.
-#[derive(Clone, Copy)]
+/// The causes of a refusal, in the order in which they are tested, by their numbers.
+#[derive(Clone, Copy, Debug, PartialEq, Eq)]
 pub enum Cause {
-    LineTooLong,
-    UnknownCommand,
-    BadFields,
-    NoSuchEnd,
-    OutOfRange,
-    TooManyEvents,
-    RepeatedDsr,
-    CableNotClear,
-    NotOpen,
-    ClockLimit,
-    Recovering,
-    BufferNotEnabled,
-    BufferFull,
-    NothingReceived,
+    LineTooLong = 1,
+    UnknownCommand = 2,
+    BadFields = 3,
+    NoSuchEnd = 4,
+    OutOfRange = 5,
+    TooManyEvents = 6,
+    RepeatedDsr = 7,
+    CableNotClear = 8,
+    NotOpen = 9,
+    ClockLimit = 10,
+    Recovering = 11,
+    BufferNotEnabled = 12,
+    BufferFull = 13,
+    NothingReceived = 14,
+}
+
+impl From<Cause> for u32 {
+    ghost from_gives = { λ cause number. number ≡ cause_number cause };
+
+    fn from(cause: Cause) -> u32 {
+        cause as u32
+    }
+}
+
+impl fmt::Display for Cause {
+    ghost output = { λ cause. Some (cause_text cause) };
+
+    fn fmt<W: fmt::Write>(&self, f: &mut fmt::Formatter<W>) -> fmt::Result {
+        f.write_str(self.text())
+    }
 }
 
 impl Cause {
-    /// The number of a cause, from 1.
-    pub fn number(self) -> u32
-        ensures { result ≡ cause_number self }
-    {
-        match self {
-            Cause::LineTooLong => 1,
-            Cause::UnknownCommand => 2,
-            Cause::BadFields => 3,
-            Cause::NoSuchEnd => 4,
-            Cause::OutOfRange => 5,
-            Cause::TooManyEvents => 6,
-            Cause::RepeatedDsr => 7,
-            Cause::CableNotClear => 8,
-            Cause::NotOpen => 9,
-            Cause::ClockLimit => 10,
-            Cause::Recovering => 11,
-            Cause::BufferNotEnabled => 12,
-            Cause::BufferFull => 13,
-            Cause::NothingReceived => 14,
-        }
-    }
-
     /// A cause in words.
     pub fn text(self) -> &'static str
         ensures { result.now ≡ cause_text self }
@@ -89,11 +93,21 @@ impl Cause {
             Cause::NothingReceived => "no received character waits",
         }
     }
+
+    /// The refusal by this cause of the event at an index, at an end.
+    pub fn at(self, index: u32, end: Option<End>) -> Fault
+        ensures { result ≡ at_place index end self }
+    {
+        Fault {
+            cause: self,
+            place: Place { index, end },
+        }
+    }
 }
 
-/// Where a call is at fault: the index of the event, from 0, and the end. Where no event is at fault the index is 0,
-/// and where no lawful end is concerned there is none.
-#[derive(Clone, Copy)]
+/// Where a call is at fault: the index of the event, from 0, and the end. Where no lawful end is concerned there is none.
+/// The index is 0 where no event is at fault, and no `Option`: a place is two numbers in every answer and to a C host.
+#[derive(Clone, Copy, Debug, PartialEq, Eq)]
 pub struct Place {
     pub index: u32,
     pub end: Option<End>,
@@ -104,13 +118,10 @@ impl Place {
     pub fn end_number(self) -> u32
         ensures { result ≡ place_end self }
     {
-        match self.end {
-            Some(end) => end.number(),
-            None => 2,
-        }
+        self.end.map_or(2, u32::from)
     }
 
-    // The end in words.
+    // The end in words. That there is none is said too, so a `Display` of `End` alone would not do.
     fn end_text(self) -> &'static str
         ensures { result.now ≡ end_text self.end }
     {
@@ -123,24 +134,18 @@ impl Place {
 }
 
 /// A refusal.
-#[derive(Clone, Copy)]
+#[derive(Clone, Copy, Debug, PartialEq, Eq)]
 pub struct Fault {
     pub cause: Cause,
     pub place: Place,
 }
 
-impl Fault {
-    /// A refusal that concerns no event and no end.
-    pub fn unplaced(cause: Cause) -> Fault
-        ensures { result ≡ unplaced cause }
-    {
-        Fault {
-            cause,
-            place: Place {
-                index: 0,
-                end: None,
-            },
-        }
+/// A refusal that concerns no event and no end.
+impl From<Cause> for Fault {
+    ghost from_gives = { λ cause fault. fault ≡ unplaced cause };
+
+    fn from(cause: Cause) -> Fault {
+        cause.at(0, None)
     }
 }
 
@@ -148,10 +153,10 @@ impl fmt::Display for Fault {
     ghost output = { λ f. Some (sentence f) };
 
     fn fmt<W: fmt::Write>(&self, f: &mut fmt::Formatter<W>) -> fmt::Result {
-        let text = self.cause.text();
-        let number = self.cause.number();
-        let index = self.place.index;
-        let end = self.place.end_text();
-        write!(f, "{text} (cause {number}, event index {index}, {end})")
+        let Fault { cause, place } = *self;
+        let number = u32::from(cause);
+        let index = place.index;
+        let end = place.end_text();
+        write!(f, "{cause} (cause {number}, event index {index}, {end})")
     }
 }

@@ -13,7 +13,7 @@ use timing::calls::{deadline, half_bit_count};
 fn refusal(fault: Fault) -> i64
     ensures { result ≡ negated fault }
 {
-    -(fault.cause.number() as i64)
+    -i64::from(u32::from(fault.cause))
 }
 
 /// H of a rate register from 0 to 2047, or −5.

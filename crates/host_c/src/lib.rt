@@ -1,4 +1,5 @@
-// The static library for C: each call of `host` under its C name.
+// The static library for C: each call of `host` under its C name. A crate is a library or a static library and not both, so `host` cannot be
+// this one.
 #![tactic(auto)]
 
 ghost use Rattle.std.specs.Prelude.{◌≡◌};

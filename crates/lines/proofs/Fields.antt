@@ -1,146 +1,130 @@
--- A field that is read is a space and the digits of its number. Assumes nothing.
-use Rattle.std.proofs.Common.{◌≡◌, ℕ, zero, suc, ◌+◌, ◌-◌, ◌*◌, ◌/◌, ◌%◌, ◌<◌, ◌≤◌, Bool, true, false, cond, not, ◌&&◌, eqb, leb, List, [], ◌∷◌, ◌++◌, length, get_or, take, drop, Ok, Err, decimal, Result, sym, refl, ap, ◌∙◌, subst, append_assoc, arith}
-use Rattle.faults.specs.declared.Cause.{Cause}
-use Rattle.faults.specs.declared.Cause.TheVariants.{BadFields}
-use Rattle.std.proofs.lemmas.Fmt.{decimal_digit, decimal_step}
-use Rattle.std.proofs.lemmas.List.{take_at, take-append-drop, take_more, drop_more, get_or-drop, length-take-le, length_push}
+-- A field that is read is a space and the digits of its number, and they are read as that field. Assumes nothing.
+use Rattle.std.proofs.Common.{◌≡◌, ℕ, ◌+◌, ◌-◌, ◌*◌, ◌/◌, ◌%◌, ◌^◌, ◌<◌, ◌≤◌, Bool, true, false, cond, eqb, leb, List, [], ◌∷◌, ◌++◌, length, get_or, drop, Ok, Err, decimal, sym, refl, ap, ◌∙◌, append_assoc, arith}
+use Rattle.std.proofs.lemmas.Fmt.{decimal_digit, decimal_step, decimal_by_steps, first_decimal}
+use Rattle.std.proofs.lemmas.List.{length_push, get_or_append_left}
+use Rattle.std.proofs.lemmas.Bool.{and_parts}
 use Rattle.std.proofs.lemmas.Bool.Decides.{nat_tests}
-use Rattle.lines.specs.Format.{largest, is_digit, goes_on, digits_from, opens_field, in_range, field}
-use Rattle.lines.specs.Texts.{with_field}
+use Rattle.faults.specs.declared.Cause.TheVariants.{BadFields}
+use Rattle.lines.specs.Format.{then, largest, is_digit, goes_on, opens_field}
+use Rattle.lines.specs.Rest.{digits_onto, first_field}
+use Rattle.lines.proofs.Digits.{one_digit, no_byte, no_digit, field_is, no_text, no_space}
 
 -- a digit more
 digit_more : (v b : ℕ) → 0 < v → goes_on v b ≡ true → decimal (v * 10 + (b - 48)) ≡ decimal v ++ (b ∷ [])
-digit_more v b pos g =
+digit_more v b pos go =
     let n = v * 10 + (b - 48) in
     let low : 48 ≤ b = grind (arith, nat_tests) in
     let high : b ≤ 57 = grind (arith, nat_tests) in
-    let small : v ≤ 4294967295 = grind (arith, nat_tests) in
+    let small : v ≤ largest = grind (arith, nat_tests) in
     let front : n / 10 ≡ v = omega arith in
     let last : 48 + n % 10 ≡ b = omega arith in
     decimal_step n (omega arith) (omega arith) ∙ ap (λ m. decimal m ++ ((48 + n % 10) ∷ [])) front ∙ ap (λ m. decimal v ++ (m ∷ [])) last
 
--- the place behind one more digit, and the bytes in another grouping
-longer : (front : List ℕ) (v b i : ℕ) → 0 < v → goes_on v b ≡ true → length (front ++ decimal v) ≡ i → length (front ++ decimal (v * 10 + (b - 48))) ≡ i + 1
-longer front v b i pos g n =
-    ap (λ ds. length (front ++ ds)) (digit_more v b pos g) ∙ ap length (sym (append_assoc front (decimal v) (b ∷ [])))
-    ∙ length_push (front ++ decimal v) b
-    ∙ ap (λ m. m + 1) n
+-- a number that is not read on
+stopped : (v : ℕ) (bs : List ℕ) (small : Bool) (n : ℕ) (rest : List ℕ) → then {A = ℕ × ℕ} {B = ℕ × List ℕ} (cond small (Ok (v, 0)) (Err BadFields)) (λ f. Ok (f.0, drop f.1 bs)) ≡ Ok (n, rest) → decimal v ++ bs ≡ decimal n ++ rest
+stopped v bs true n rest h = let e : ◌≡◌ {A = ℕ × List ℕ} (v, bs) (n, rest) = cc in ap (λ p. decimal p.0 ++ p.1) e
+stopped v bs false n rest h = cc
 
-regrouped : (front bs : List ℕ) (v b : ℕ) → 0 < v → goes_on v b ≡ true → (front ++ decimal v) ++ (b ∷ bs) ≡ (front ++ decimal (v * 10 + (b - 48))) ++ bs
-regrouped front bs v b pos g =
-    sym (append_assoc (front ++ decimal v) (b ∷ []) bs) ∙ ap (λ xs. xs ++ bs) (append_assoc front (decimal v) (b ∷ []))
-    ∙ ap (λ ds. (front ++ ds) ++ bs) (sym (digit_more v b pos g))
-
--- what stands in front, then a number so far, then bytes that are read on
-abbrev Reads : List ℕ → ℕ → List ℕ → ℕ × ℕ → Type 0
-Reads front v bs r = take r.1 ((front ++ decimal v) ++ bs) ≡ front ++ decimal r.0
-
-by_test :
-    (front bs : List ℕ) (v b i : ℕ) (on : ℕ × ℕ) → length (front ++ decimal v) ≡ i → (g : Bool) → goes_on v b ≡ g
-    → (goes_on v b ≡ true → Reads front v (b ∷ bs) on) → Reads front v (b ∷ bs) (cond g on (v, i))
-by_test front bs v b i on n true g again = again g
-by_test front bs v b i on n false g again = take_at (front ++ decimal v) (b ∷ bs) i n
-
-digits_read : (front bs : List ℕ) (v i : ℕ) → 0 < v → length (front ++ decimal v) ≡ i → Reads front v bs (digits_from i v bs)
-digits_read front [] v i pos n = take_at (front ++ decimal v) [] i n
-digits_read front (b ∷ bs) v i pos n =
+-- what stands behind the number so far
+by_next :
+    (b : ℕ) (bs : List ℕ) (v n : ℕ) (rest : List ℕ) → ((w : ℕ) → 0 < w → digits_onto w bs ≡ Ok (n, rest) → decimal w ++ bs ≡ decimal n ++ rest)
+    → 0 < v → (g : Bool) → goes_on v b ≡ g → digits_onto v (b ∷ bs) ≡ Ok (n, rest) → decimal v ++ (b ∷ bs) ≡ decimal n ++ rest
+unfolding digits_onto
+by_next b bs v n rest on pos true go h =
     let w = v * 10 + (b - 48) in
-    let on = digits_from (i + 1) w bs in
-    by_test front bs v b i on n (goes_on v b) refl
-    (λ g. ap (take on.1) (regrouped front bs v b pos g) ∙ digits_read front bs w (i + 1) (omega arith) (longer front v b i pos g n))
+    let low : 48 ≤ b = grind (arith, nat_tests) in
+    let high : b ≤ 57 = grind (arith, nat_tests) in
+    let small : v ≤ largest = grind (arith, nat_tests) in
+    sym (append_assoc (decimal v) (b ∷ []) bs) ∙ ap (λ ds. ds ++ bs) (sym (digit_more v b pos go)) ∙ on w (omega arith) (sym (one_digit v b bs small low high) ∙ h)
+by_next b bs v n rest on pos false stop h = stopped v (b ∷ bs) (leb v largest) n rest (rw stop at h)
+
+digits_read : (bs : List ℕ) (v n : ℕ) (rest : List ℕ) → 0 < v → digits_onto v bs ≡ Ok (n, rest) → decimal v ++ bs ≡ decimal n ++ rest
+unfolding digits_onto
+digits_read [] v n rest pos h = stopped v [] (leb v largest) n rest h
+digits_read (b ∷ bs) v n rest pos h = by_next b bs v n rest (λ w p. digits_read bs w n rest p) pos (goes_on v b) refl h
 
 -- the first digit, with no digit behind a 0
-abbrev Follows : List ℕ → List ℕ → ℕ × ℕ → Type 0
-Follows front bs r = take r.1 (front ++ bs) ≡ front ++ decimal r.0
+plain : (rest : List ℕ) → is_digit (get_or rest 0 0) ≡ false → (v : ℕ) → v ≤ largest → digits_onto v rest ≡ Ok (v, rest)
+plain [] h v small = no_byte v [] small refl
+plain (b ∷ bs) h v small = no_digit v b bs small (λ low high. grind (arith, nat_tests))
 
-one_more : (front bs : List ℕ) (d i : ℕ) → length front ≡ i → take (i + 1) (front ++ (d ∷ bs)) ≡ front ++ (d ∷ [])
-one_more front bs d i n =
-    ap (take (i + 1)) (sym (append_assoc front (d ∷ []) bs)) ∙ take_at (front ++ (d ∷ [])) bs (i + 1) (length_push front d ∙ ap (λ m. m + 1) n)
+number_read : (t : List ℕ) (n : ℕ) (rest : List ℕ) → opens_field (32 ∷ t) 0 ≡ true → digits_onto 0 t ≡ Ok (n, rest) → t ≡ decimal n ++ rest
+number_read [] n rest h read = cc
+number_read (d ∷ u) n rest h read = by_zero (eqb d 48) refl
+  where
+    dig : is_digit d ≡ true
+    dig = (and_parts (is_digit d) _ h).0
 
-zero_ends : (bs : List ℕ) (i : ℕ) → is_digit (get_or bs 0 0) ≡ false → digits_from i 0 bs ≡ (0, i)
-zero_ends [] i h = refl
-zero_ends (b ∷ bs) i h = ap (λ g. cond (g && leb 0 largest) (digits_from (i + 1) (0 * 10 + (b - 48)) bs) (0, i)) h
+    on : digits_onto (d - 48) u ≡ Ok (n, rest)
+    on =
+        let low : 48 ≤ d = let e = dig in grind (arith, nat_tests) in
+        let high : d ≤ 57 = let e = dig in grind (arith, nat_tests) in
+        ap (λ v. digits_onto v u) (omega arith) ∙ sym (one_digit 0 d u (omega arith) low high) ∙ read
 
-by_first :
-    (front bs : List ℕ) (d i : ℕ) → length front ≡ i → is_digit d ≡ true → (z : Bool) → eqb d 48 ≡ z → (z && is_digit (get_or bs 0 0)) ≡ false
-    → Follows front (d ∷ bs) (digits_from (i + 1) (d - 48) bs)
-by_first front bs d i n dig true z lead =
-    let is : d ≡ 48 = grind (arith, nat_tests) in
-    let none : d - 48 ≡ 0 = omega arith in
-    let digit : decimal (d - 48) ≡ d ∷ [] = decimal_digit (d - 48) (omega arith) ∙ ap (λ m. m ∷ []) (omega arith) in
-    let ends : digits_from (i + 1) (d - 48) bs ≡ (d - 48, i + 1) = ap (λ m. digits_from (i + 1) m bs) none ∙ zero_ends bs (i + 1) lead ∙ ap (λ m. (m, i + 1)) (sym none) in
-    subst (Follows front (d ∷ bs)) (sym ends) (one_more front bs d i n ∙ ap (λ ds. front ++ ds) (sym digit))
-by_first front bs d i n dig false z lead =
-    let low : 48 ≤ d = grind (arith, nat_tests) in
-    let high : d ≤ 57 = grind (arith, nat_tests) in
-    let not_zero : 48 < d = grind (arith, nat_tests) in
-    let digit : decimal (d - 48) ≡ d ∷ [] = decimal_digit (d - 48) (omega arith) ∙ ap (λ m. m ∷ []) (omega arith) in
-    let whole : front ++ (d ∷ bs) ≡ (front ++ decimal (d - 48)) ++ bs = sym (append_assoc front (d ∷ []) bs) ∙ ap (λ ds. (front ++ ds) ++ bs) (sym digit) in
-    let place : length (front ++ decimal (d - 48)) ≡ i + 1 = ap (λ ds. length (front ++ ds)) digit ∙ length_push front d ∙ ap (λ m. m + 1) n in
-    ap (take (digits_from (i + 1) (d - 48) bs).1) whole ∙ digits_read front bs (d - 48) (i + 1) (omega arith) place
+    by_zero : (z : Bool) → eqb d 48 ≡ z → (d ∷ u) ≡ decimal n ++ rest
+    by_zero true e =
+        let zero : d ≡ 48 = grind (arith, nat_tests) in
+        let next : is_digit (get_or u 0 0) ≡ false = grind (arith, nat_tests) in
+        let alone : digits_onto (d - 48) u ≡ Ok (0, u) = ap (λ v. digits_onto v u) (omega arith) ∙ plain u next 0 (omega arith) in
+        let f : ◌≡◌ {A = ℕ × List ℕ} (0, u) (n, rest) = let g = sym alone ∙ on in cc in
+        ap (λ c. c ∷ u) zero ∙ ap (λ ds. ds ++ u) (sym (decimal_digit 0 (omega arith))) ∙ ap (λ p. decimal p.0 ++ p.1) f
+    by_zero false e =
+        let low : 48 ≤ d = let e = dig in grind (arith, nat_tests) in
+        let high : d ≤ 57 = let e = dig in grind (arith, nat_tests) in
+        let more : 48 < d = grind (arith, nat_tests) in
+        let digit : decimal (d - 48) ≡ d ∷ [] = decimal_digit (d - 48) (omega arith) ∙ ap (λ m. m ∷ []) (omega arith) in
+        ap (λ ds. ds ++ u) (sym digit) ∙ digits_read u (d - 48) n rest (omega arith) on
 
-first_read :
-    (front bs : List ℕ) (d i : ℕ) → length front ≡ i → is_digit d ≡ true → (eqb d 48 && is_digit (get_or bs 0 0)) ≡ false
-    → Follows front (d ∷ bs) (digits_from i 0 (d ∷ bs))
-first_read front bs d i n dig lead =
-    let read : digits_from i 0 (d ∷ bs) ≡ digits_from (i + 1) (d - 48) bs =
-    ap (λ g. cond (g && leb 0 largest) (digits_from (i + 1) (0 * 10 + (d - 48)) bs) (0, i)) dig ∙ ap (λ m. digits_from (i + 1) m bs) (omega arith) in
-    subst (Follows front (d ∷ bs)) (sym read) (by_first front bs d i n dig (eqb d 48) refl lead)
+pub field_read : (text : List ℕ) (n : ℕ) (rest : List ℕ) → first_field text ≡ Ok (n, rest) → text ≡ 32 ∷ (decimal n ++ rest)
+field_read [] n rest h = let none = sym (no_text [] refl) ∙ h in cc
+field_read (b ∷ t) n rest h = by_space (eqb b 32) refl
+  where
+    opened : (o : Bool) → opens_field (32 ∷ t) 0 ≡ o → cond o (digits_onto 0 t) (Err BadFields) ≡ Ok (n, rest) → t ≡ decimal n ++ rest
+    opened true o r = number_read t n rest o r
+    opened false o r = cc
 
--- tests taken apart
-pub and_parts : (a b : Bool) → (a && b) ≡ true → (a ≡ true) × (b ≡ true)
-and_parts true b h = (refl, h)
-and_parts false b h = (h, cc)
+    by_space : (s : Bool) → eqb b 32 ≡ s → (b ∷ t) ≡ 32 ∷ (decimal n ++ rest)
+    by_space true e =
+        let space : b ≡ 32 = grind (arith, nat_tests) in
+        ap (λ c. c ∷ t) space ∙ ap (λ xs. 32 ∷ xs) (opened (opens_field (32 ∷ t) 0) refl (sym (field_is t) ∙ ap (λ c. first_field (c ∷ t)) (sym space) ∙ h))
+    by_space false e = let none = sym (no_space b t (λ space. grind (arith, nat_tests))) ∙ h in cc
 
-not_parts : (a : Bool) → not a ≡ true → a ≡ false
-not_parts true h = cc
-not_parts false h = refl
+-- the digits of a number, read from the first on, come to the number, and what follows is read after it
+abbrev ComesTo : ℕ → List ℕ → Type 0
+ComesTo n ds = n ≤ largest → (rest : List ℕ) → digits_onto 0 (ds ++ rest) ≡ digits_onto n rest
 
--- an answer behind a test, unless it is refused
-pub passed : {X : Type 0} (b : Bool) (r : Result X Cause) (c : Cause) (x : X) → cond b r (Err c) ≡ Ok x → (b ≡ true) × (r ≡ Ok x)
-passed true r c x h = (refl, h)
-passed false r c x h = (cc, cc)
+one_comes : (n : ℕ) → n < 10 → ComesTo n ((48 + n) ∷ [])
+one_comes n h small rest = one_digit 0 (48 + n) rest (omega arith) (omega arith) (omega arith) ∙ ap (λ v. digits_onto v rest) (omega arith)
 
-pub place_within : (xs : List ℕ) (i b : ℕ) → get_or xs i 0 ≡ b → 0 < b → i < length xs
-place_within [] i b e h = omega arith
-place_within (x ∷ xs) zero b e h = omega arith
-place_within (x ∷ xs) (suc i) b e h = omega (arith, place_within xs i b e h)
+more_come : (n : ℕ) (ds : List ℕ) → 10 ≤ n → ComesTo (n / 10) ds → ComesTo n (ds ++ ((48 + n % 10) ∷ []))
+more_come n ds h before small rest =
+    let d = 48 + n % 10 in
+    ap (digits_onto 0) (append_assoc ds (d ∷ []) rest) ∙ before (omega arith) (d ∷ rest)
+    ∙ one_digit (n / 10) d rest (omega arith) (omega arith) (omega arith)
+    ∙ ap (λ v. digits_onto v rest) (omega arith)
 
--- what the opening of a field says of the text
-record Opened (text : List ℕ) (i : ℕ) : Type 0 where
-  space : get_or text i 0 ≡ 32
-  digit : is_digit (get_or text (i + 1) 0) ≡ true
-  plain : (eqb (get_or text (i + 1) 0) 48 && is_digit (get_or text (i + 2) 0)) ≡ false
+-- the first byte of a number is a digit, and no digit stands behind a 0
+first_digit : (n : ℕ) → n < 2 ^ 64 → (0 < length (decimal n)) × (is_digit (get_or (decimal n) 0 0) ≡ true)
+first_digit n small =
+    decimal_by_steps (λ m ds. (0 < length ds) × (is_digit (get_or ds 0 0) ≡ true))
+    (λ m h. (omega arith, grind (arith, nat_tests)))
+    (λ m ds h before. (omega (arith, length_push ds (48 + m % 10)), ap is_digit (get_or_append_left ds ((48 + m % 10) ∷ []) 0 0 before.0) ∙ before.1))
+    n small
 
-opened : (text : List ℕ) (i : ℕ) → opens_field text i ≡ true → Opened text i
-opened text i h =
-    let p = and_parts (eqb (get_or text i 0) 32) _ h in
-    let q = and_parts (is_digit (get_or text (i + 1) 0)) _ p.1 in
-    let e : eqb (get_or text i 0) 32 ≡ true = p.0 in
-    record { space = grind (arith, nat_tests); digit = q.0; plain = not_parts _ q.1 }
+opens_decimal : (n : ℕ) (rest : List ℕ) → n ≤ largest → is_digit (get_or rest 0 0) ≡ false → opens_field (32 ∷ (decimal n ++ rest)) 0 ≡ true
+opens_decimal n rest small h =
+    let f = first_digit n (omega arith) in
+    let t = decimal n ++ rest in
+    let first : get_or t 0 0 ≡ get_or (decimal n) 0 0 = get_or_append_left (decimal n) rest 0 0 f.0 in
+    let digit : is_digit (get_or t 0 0) ≡ true = ap is_digit first ∙ f.1 in
+    let lead : get_or t 0 0 ≡ 48 → is_digit (get_or t 1 0) ≡ false = λ z.
+    let above : (0 < n → ⊥) = λ p. let a = first_decimal n p (omega arith) in omega arith in
+    let none : n ≡ 0 = omega arith in
+    ap (λ m. is_digit (get_or (decimal m ++ rest) 1 0)) none ∙ ap (λ ds. is_digit (get_or (ds ++ rest) 1 0)) (decimal_digit 0 (omega arith)) ∙ h in
+    grind (arith, nat_tests, digit, lead)
 
-opened_read : (text : List ℕ) (i : ℕ) → Opened text i → take (digits_from (i + 1) 0 (drop (i + 1) text)).1 text ≡ with_field (take i text) (digits_from (i + 1) 0 (drop (i + 1) text)).0
-opened_read text i o =
-    let d = get_or text (i + 1) 0 in
-    let dig : is_digit d ≡ true = o.digit in
-    let some : 0 < d = grind (arith, nat_tests) in
-    let lt : i + 1 < length text = place_within text (i + 1) d refl some in
-    let front = take (i + 1) text in
-    let rest = drop (i + 1 + 1) text in
-    let behind : drop (i + 1) text ≡ d ∷ rest = drop_more text (i + 1) 0 lt in
-    let whole : text ≡ front ++ (d ∷ rest) = sym (take-append-drop (i + 1) text) ∙ ap (λ ys. front ++ ys) behind in
-    let front_is : front ≡ take i text ++ (32 ∷ []) = take_more text i 0 (omega arith) ∙ ap (λ b. take i text ++ (b ∷ [])) o.space in
-    let next : get_or rest 0 0 ≡ get_or text (i + 2) 0 = get_or-drop (i + 1 + 1) text 0 0 ∙ ap (λ m. get_or text m 0) (omega arith) in
-    let follows = first_read front rest d (i + 1) (length-take-le (i + 1) text (omega arith)) dig (ap (λ b. eqb d 48 && is_digit b) next ∙ o.plain) in
-    let r = digits_from (i + 1) 0 (drop (i + 1) text) in
-    let there : Follows front (d ∷ rest) r = subst (Follows front (d ∷ rest)) (ap (digits_from (i + 1) 0) (sym behind)) follows in
-    ap (take r.1) whole ∙ there ∙ ap (λ f. f ++ decimal r.0) front_is
-
--- a field that is read
-pub field_read : (text : List ℕ) (i : ℕ) (f : ℕ × ℕ) → field text i ≡ Ok f → take f.1 text ≡ with_field (take i text) f.0
-field_read text i f h =
-    let r = digits_from (i + 1) 0 (drop (i + 1) text) in
-    let p = passed (opens_field text i) (in_range r) BadFields f h in
-    let q = passed (leb r.0 largest) (Ok r) BadFields f p.1 in
-    let same : r ≡ f = let e : ◌≡◌ {A = Result (ℕ × ℕ) Cause} (Ok r) (Ok f) = q.1 in cc in
-    subst (λ (g : ℕ × ℕ). take g.1 text ≡ with_field (take i text) g.0) same (opened_read text i (opened text i p.0))
+pub field_taken : (n : ℕ) (rest : List ℕ) → n ≤ largest → is_digit (get_or rest 0 0) ≡ false → first_field (32 ∷ (decimal n ++ rest)) ≡ Ok (n, rest)
+field_taken n rest small h =
+    field_is (decimal n ++ rest) ∙ ap (λ o. cond o (digits_onto 0 (decimal n ++ rest)) (Err BadFields)) (opens_decimal n rest small h)
+    ∙ decimal_by_steps ComesTo one_comes more_come n (omega arith) small rest
+    ∙ plain rest h n small

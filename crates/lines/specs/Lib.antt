@@ -1,3 +1,4 @@
 pub mod Format
+pub mod Rest
 pub mod Texts
 pub mod Accepted

@@ -1,5 +1,5 @@
 -- The values and the text of each command and of each reply. Assumes nothing.
-use Rattle.std.specs.Prelude.{ℕ, Bool, true, false, cond, List, [], ◌∷◌, ◌++◌, length, take, drop, Ok, Err, decimal, Result, nat_le}
+use Rattle.std.specs.Prelude.{ℕ, Bool, true, false, cond, List, [], ◌∷◌, ◌++◌, length, drop, Ok, Err, decimal, Result, nat_le}
 use Rattle.faults.specs.declared.Cause.TheVariants.{OutOfRange}
 use Rattle.faults.specs.declared.Fault.{Fault}
 use Rattle.faults.specs.Faults.{cause_number, place_end, unplaced}
@@ -7,11 +7,6 @@ use Rattle.lines.specs.declared.command.Command.{Command}
 use Rattle.lines.specs.declared.command.Command.TheVariants.{Open, Moments, Put, Get, Load, Take}
 use Rattle.lines.specs.declared.reply.Reply.{Reply}
 use Rattle.lines.specs.declared.reply.Reply.TheVariants.{Done, Number, Character, Refused}
-use Rattle.lines.specs.declared.text.Text.{Text}
-
--- what is written so far
-abbrev pub so_far : Text → List ℕ
-so_far t = take t.len t.bytes
 
 -- a text in the place of a buffer's first bytes
 abbrev pub over : List ℕ → List ℕ → List ℕ

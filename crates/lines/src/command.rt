@@ -1,7 +1,8 @@
 // What a line asks for.
 
 /// A call of the bench with its numbers, as the line has them.
-#[derive(Clone, Copy)]
+// An end too is the number of the line: which numbers are ends is the bench's to say, and it refuses the others by cause 4.
+#[derive(Clone, Copy, Debug, PartialEq, Eq)]
 pub enum Command {
     Open {
         control: u32,

@@ -4,4 +4,3 @@
 pub mod command;
 pub mod reading;
 pub mod reply;
-mod text;

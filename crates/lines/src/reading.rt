@@ -1,129 +1,88 @@
 // A line of a script is read: its closing byte, its length, its letter and its fields.
-ghost use Rattle.std.specs.Prelude.{◌≡◌, ◌+◌, ◌<◌, ◌≤◌, true, length, drop, IfOk, slice_index};
+ghost use Rattle.std.specs.Prelude.{◌≡◌, ◌+◌, ◌-◌, ◌*◌, ◌≤◌, length, Ok, Err, ◌∷◌, MatchResult};
+ghost use Rattle.std.specs.Option.{SomeIff};
 ghost use Rattle.lines.specs.Accepted.{ItsText, CommandsAccepted};
-ghost use Rattle.lines.specs.Format.{is_digit, goes_on, digits_from, opens_field, field, one, two, three, four, text_length, command_in, parsed};
+ghost use Rattle.lines.specs.Format.{largest, opens_field, text_of_line, parsed};
+ghost use Rattle.lines.specs.Rest.{digits_onto, first_field, fields, command_by_rest};
 
 use crate::command::Command;
 use faults::Cause;
 
-// The byte at a place, and 0, which no rule takes, behind the end.
-fn byte_at(text: &[u8], at: usize) -> u8
-    ensures value { result ≡ slice_index text.now at }
-    ensures within { 0 < result → at < length text.now }
+// Whether a number begins here: a digit, and no digit behind a 0.
+fn opens(text: &[u8]) -> bool
+    ensures { result ≡ opens_field (32 ∷ text.now) 0 }
 {
-    if at < text.len() { text[at] } else { 0 }
-}
-
-fn is_digit(b: u8) -> bool
-    ensures { result ≡ is_digit b }
-{
-    b >= 48 && b <= 57
-}
-
-// Whether a number has one more digit. One that is too large already is not read on: it is refused as it stands.
-fn goes_on(value: u64, b: u8) -> bool
-    ensures { result ≡ goes_on value b }
-{
-    is_digit(b) && value <= 4294967295
-}
-
-// The number that digits write from a place on, and the place behind them.
-fn read_digits(text: &[u8], at: usize) -> (u64, usize)
-    requires { at ≤ length text.now }
-    ensures value { result ≡ digits_from at 0 (drop at text.now) }
-    ensures within { result.1 ≤ length text.now }
-{
-    let mut value = 0u64;
-    let mut i = at;
-    while i < text.len() {
-        let b = text[i];
-        if !goes_on(value, b) {
-            return (value, i);
-        }
-        value = value * 10 + (b - 48) as u64;
-        i += 1;
+    match text {
+        [b'0', second, ..] => !second.is_ascii_digit(),
+        [first, ..] => first.is_ascii_digit(),
+        [] => false,
     }
-    (value, i)
 }
 
-// Whether a field begins at a place: one space, then a digit, and no digit behind a 0.
-fn opens_field(text: &[u8], at: usize) -> bool
-    requires { at ≤ length text.now }
-    ensures value { result ≡ opens_field text.now at }
-    ensures within { result ≡ true → at < length text.now }
+// A number with one digit more, where it is not too large.
+fn with_digit(number: u32, digit: u8) -> Option<u32>
+    requires { 48 ≤ digit }
+    ensures { SomeIff result (number * 10 + (digit - 48) ≤ largest) (number * 10 + (digit - 48)) }
 {
-    let space = byte_at(text, at);
-    let first = byte_at(text, at + 1);
-    let second = byte_at(text, at + 2);
-    space == 32 && is_digit(first) && !(first == 48 && is_digit(second))
+    number.checked_mul(10)?.checked_add(u32::from(digit - b'0'))
 }
 
-// The number of the field at a place, and the place behind it.
-fn read_field(text: &[u8], at: usize) -> Result<(u32, usize), Cause>
-    requires { at ≤ length text.now }
-    ensures answer { result ≡ field text.now at }
-    ensures within { IfOk result (λ p. p.1 ≤ length text.now) }
+// The number that the digits at the front of a text write, and the text behind them. With `str::from_utf8` and `parse` each digit is read three
+// times, and a line with four numbers takes a third longer.
+#[tactic(auto, using(crate::proofs::Digits::digit_steps))]
+fn read_digits(text: &[u8]) -> Result<(u32, &[u8]), Cause>
+    ensures { MatchResult result (λ p. digits_onto 0 text.now ≡ Ok (p.0, p.1.now)) (λ c. digits_onto 0 text.now ≡ Err c) }
 {
-    if !opens_field(text, at) {
+    let mut number = 0;
+    let mut rest = text;
+    while let Some((digit @ b'0'..=b'9', behind)) = rest.split_first() {
+        number = with_digit(number, *digit).ok_or(Cause::BadFields)?;
+        rest = behind;
+    }
+    Ok((number, rest))
+}
+
+// The number of the field that a text begins with, and the text behind it.
+#[tactic(auto, using(crate::proofs::Digits::field_steps))]
+fn read_field(text: &[u8]) -> Result<(u32, &[u8]), Cause>
+    ensures { MatchResult result (λ p. first_field text.now ≡ Ok (p.0, p.1.now)) (λ c. first_field text.now ≡ Err c) }
+{
+    let Some((b' ', text)) = text.split_first() else {
+        return Err(Cause::BadFields);
+    };
+    if !opens(text) {
         return Err(Cause::BadFields);
     }
-    let (value, behind) = read_digits(text, at + 1);
-    if value > 4294967295 {
-        return Err(Cause::BadFields);
+    read_digits(text)
+}
+
+// The numbers of a text of so many fields, with nothing behind them.
+#[tactic(auto, using(crate::proofs::FieldLists::field_steps))]
+fn read_fields<const N: usize>(text: &[u8]) -> Result<[u32; N], Cause>
+    ensures { result ≡ fields N text.now }
+{
+    let mut numbers = [0; N];
+    let mut rest = text;
+    for number in &mut numbers {
+        (*number, rest) = read_field(rest)?;
     }
-    Ok((value as u32, behind))
-}
-
-// The last field of a text.
-fn read_one(text: &[u8], at: usize) -> Result<u32, Cause>
-    requires { at ≤ length text.now }
-    ensures { result ≡ one text.now at }
-{
-    let (value, behind) = read_field(text, at)?;
-    if behind != text.len() {
-        return Err(Cause::BadFields);
+    if rest.is_empty() {
+        Ok(numbers)
+    } else {
+        Err(Cause::BadFields)
     }
-    Ok(value)
-}
-
-// The last two, three and four.
-fn read_two(text: &[u8], at: usize) -> Result<(u32, u32), Cause>
-    requires { at ≤ length text.now }
-    ensures { result ≡ two text.now at }
-{
-    let (a, behind) = read_field(text, at)?;
-    let b = read_one(text, behind)?;
-    Ok((a, b))
-}
-
-fn read_three(text: &[u8], at: usize) -> Result<(u32, u32, u32), Cause>
-    requires { at ≤ length text.now }
-    ensures { result ≡ three text.now at }
-{
-    let (a, behind) = read_field(text, at)?;
-    let (b, c) = read_two(text, behind)?;
-    Ok((a, b, c))
-}
-
-fn read_four(text: &[u8], at: usize) -> Result<(u32, u32, u32, u32), Cause>
-    requires { at ≤ length text.now }
-    ensures { result ≡ four text.now at }
-{
-    let (a, behind) = read_field(text, at)?;
-    let (b, c, d) = read_three(text, behind)?;
-    Ok((a, b, c, d))
 }
 
 // The command of a text, by its letter.
 fn read_command(text: &[u8]) -> Result<Command, Cause>
-    ensures { result ≡ command_in text.now (slice_index text.now 0) }
+    ensures { result ≡ command_by_rest text.now }
 {
-    if text.len() == 0 {
+    let Some((letter, rest)) = text.split_first() else {
         return Err(Cause::UnknownCommand);
-    }
-    match text[0] as char {
+    };
+    match *letter as char {
         'O' => {
-            let (control, x, r, interval) = read_four(text, 1)?;
+            let [control, x, r, interval] = read_fields::<4>(rest)?;
             Ok(Command::Open {
                 control,
                 x,
@@ -132,11 +91,11 @@ fn read_command(text: &[u8]) -> Result<Command, Cause>
             })
         }
         'M' => {
-            let n = read_one(text, 1)?;
+            let [n] = read_fields::<1>(rest)?;
             Ok(Command::Moments { n })
         }
         'P' => {
-            let (end, address, count, value) = read_four(text, 1)?;
+            let [end, address, count, value] = read_fields::<4>(rest)?;
             Ok(Command::Put {
                 end,
                 address,
@@ -145,7 +104,7 @@ fn read_command(text: &[u8]) -> Result<Command, Cause>
             })
         }
         'G' => {
-            let (end, address, count) = read_three(text, 1)?;
+            let [end, address, count] = read_fields::<3>(rest)?;
             Ok(Command::Get {
                 end,
                 address,
@@ -153,38 +112,26 @@ fn read_command(text: &[u8]) -> Result<Command, Cause>
             })
         }
         'L' => {
-            let (end, character) = read_two(text, 1)?;
+            let [end, character] = read_fields::<2>(rest)?;
             Ok(Command::Load { end, character })
         }
         'T' => {
-            let end = read_one(text, 1)?;
+            let [end] = read_fields::<1>(rest)?;
             Ok(Command::Take { end })
         }
         _ => Err(Cause::UnknownCommand),
     }
 }
 
-// How long a line is without its closing byte 10, if it has one.
-fn text_length(line: &[u8]) -> usize
-    ensures value { result ≡ text_length line.now }
-    ensures within { result ≤ length line.now }
+// A line without its closing byte, if it has one, unless it is too long.
+fn text_of(line: &[u8]) -> Result<&[u8], Cause>
+    ensures { MatchResult result (λ text. (text.now ≡ text_of_line line.now) × (length text.now ≤ 80)) (λ c. parsed line.now ≡ Err c) }
 {
-    let n = line.len();
-    if n > 0 && line[n - 1] == 10 {
-        return n - 1;
-    }
-    n
-}
-
-// The closing byte, then the length, then the command.
-fn read_line(line: &[u8]) -> Result<Command, Cause>
-    ensures { result ≡ parsed line.now }
-{
-    let text = &line[..text_length(line)];
+    let text = line.strip_suffix(b"\n").unwrap_or(line);
     if text.len() > 80 {
         return Err(Cause::LineTooLong);
     }
-    read_command(text)
+    Ok(text)
 }
 
 /// The command of a line, with or without its closing byte 10, or the cause why it has none: 1, 2 or 3. A line that is accepted is the text
@@ -193,12 +140,10 @@ pub fn parse(line: &[u8]) -> Result<Command, Cause>
     ensures answer { result ≡ parsed line.now }
     ensures text { ItsText line.now result }
 {
-    read_line(line)
+    read_command(text_of(line)?)
 }
 
 /// The text of every command, with and without a closing byte 10, is accepted and read as that command.
-pub fn every_command_is_read() -> u8
+pub fn every_command_is_read()
     ensures { CommandsAccepted }
-{
-    0
-}
+{}

@@ -2,19 +2,25 @@
 #![tactic(auto)]
 
 use std::io;
-use std::io::{BufRead, BufReader};
 
 mod report;
 mod request;
 mod words;
 
-use report::{print_refusal, print_sizes};
+use console::lines::for_each_line;
+use console::refused::RefusedLine;
+use faults::{Cause, Fault};
+use report::print_sizes;
 use request::Request;
 
+fn print_refusal(rt: &impl Print, number: u64, fault: Fault) -> io::Result<()> {
+    rt.println(RefusedLine { number, fault })
+}
+
 // Comments are passed on, so that the output can be read by itself.
-fn answer(rt: &HostRuntime, number: u64, bytes: &[u8]) -> io::Result<()> {
-    let Ok(text) = std::str::from_utf8(bytes) else {
-        return print_refusal(rt, number, request::badly_written());
+fn answer(rt: &(impl Print + AllocGlobal), number: u64, line: &[u8]) -> io::Result<()> {
+    let Ok(text) = std::str::from_utf8(line) else {
+        return print_refusal(rt, number, Fault::from(Cause::BadFields));
     };
     if text.trim().is_empty() || text.starts_with("#") {
         return rt.println(text);
@@ -25,19 +31,9 @@ fn answer(rt: &HostRuntime, number: u64, bytes: &[u8]) -> io::Result<()> {
     }
 }
 
-fn run(rt: &HostRuntime) -> io::Result<()> {
-    let mut number = 0u64;
-    for line in BufReader::new(rt.alloc(), rt.stdin())?.split(rt.alloc(), 10) {
-        let line = line?;
-        number = number.saturating_add(1);
-        answer(rt, number, line.as_slice())?;
-    }
-    Ok(())
-}
-
 fn main(rt: HostRuntime) -> anyhow::Result<()> {
-    match run(&rt) {
-        Ok(()) => Ok(()),
-        Err(error) => Err(error.into()),
-    }
+    for_each_line(rt.alloc(), rt.stdin(), |number, line| {
+        answer(&rt, number, line.as_slice())
+    })?;
+    Ok(())
 }

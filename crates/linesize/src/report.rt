@@ -1,20 +1,17 @@
 // What is printed for one line of input.
-use crate::request::{Request, read_nominal};
+ghost use Rattle.std.specs.Prelude.{◌<◌};
+
+use crate::request::{Known, Request};
 use crate::words::{InShort, InWords};
-use faults::Fault;
 use sizing::figures::{Hundredths, SystemClock};
 use sizing::line::Line;
 use std::alloc::{AllocError, Global};
 use std::io;
+use std::num::NonZeroU32;
 use timing::counts::Divider;
-use timing::registers::Control;
-
-pub(crate) fn print_refusal(rt: &HostRuntime, number: u64, fault: Fault) -> io::Result<()> {
-    println!(rt; "line {number} is refused: {fault}")
-}
 
 // How a line does at one frequency of φ.
-fn print_at(rt: &HostRuntime, line: Line, clock: SystemClock) -> io::Result<()> {
+fn print_at(rt: &impl Print, line: Line, clock: SystemClock) -> io::Result<()> {
     let mhz = clock.megahertz();
     let rate = line.bit_rate(clock);
     let deadline = line.deadline_time(clock);
@@ -29,14 +26,21 @@ fn verdict(met: bool) -> &'static str {
 }
 
 // The parts in 100 of which a rate lies off its nominal value, to the nearest hundredth.
-fn percent(off: u64, wanted: u64) -> Hundredths {
-    let rounded = off.saturating_mul(10000).saturating_add(wanted / 2);
-    Hundredths(rounded.checked_div(wanted).unwrap_or(0))
+fn percent(off: u64, wanted: u64) -> Hundredths
+    requires { 0 < wanted }
+{
+    Hundredths(off.saturating_mul(10000).saturating_add(wanted / 2) / wanted)
+}
+
+// The rate at an internal clock of 1 MHz, at which the chip's makers give their figures.
+fn makers_rate(line: Line) -> Hundredths {
+    line.bit_rate(SystemClock::for_one_microsecond(line.control().divider))
 }
 
 // A nominal rate is met by a rate within one percent of it.
-fn print_nominal(rt: &HostRuntime, rate: Hundredths, nominal: u32) -> io::Result<()> {
-    let wanted = 100 * nominal as u64;
+fn print_nominal(rt: &impl Print, line: Line, nominal: NonZeroU32) -> io::Result<()> {
+    let rate = makers_rate(line);
+    let wanted = 100 * u64::from(nominal.get());
     let (off, side) = if rate.0 < wanted {
         (wanted - rate.0, "below")
     } else {
@@ -48,43 +52,30 @@ fn print_nominal(rt: &HostRuntime, rate: Hundredths, nominal: u32) -> io::Result
 }
 
 // Whether a figure is the format in short form, or the rate with its two decimals.
-fn is_exact(
-    heap: Global,
-    control: Control,
-    rate: Hundredths,
-    figure: &str,
-) -> Result<bool, AllocError> {
-    let format = format!(in heap; "{}", InShort(control))?;
-    let bits = format!(in heap; "{rate}")?;
-    Ok(figure == format.as_str() || figure == bits.as_str())
+fn is_exact(heap: Global, line: Line, figure: &str) -> Result<bool, AllocError> {
+    let format = format!(in heap; "{}", InShort(line.control()))?;
+    let rate = format!(in heap; "{}", makers_rate(line))?;
+    Ok(figure == format.as_str() || figure == rate.as_str())
 }
 
-fn print_exact(
-    rt: &HostRuntime,
-    control: Control,
-    rate: Hundredths,
-    figure: &str,
-) -> io::Result<()> {
-    let met = verdict(is_exact(rt.alloc(), control, rate, figure)?);
+fn print_exact(rt: &(impl Print + AllocGlobal), line: Line, figure: &str) -> io::Result<()> {
+    let met = verdict(is_exact(rt.alloc(), line, figure)?);
     println!(rt; "  known       {figure}: {met}")
 }
 
-// The chip's makers give their figures at an internal clock of 1 MHz, so the rate is taken at that.
-fn print_known(rt: &HostRuntime, line: Line, field: &str) -> io::Result<()> {
-    let control = line.control();
-    let rate = line.bit_rate(SystemClock::for_one_microsecond(control.divider));
-    if let Some(figure) = field.strip_prefix("=") {
-        return print_exact(rt, control, rate, figure);
-    }
-    let digits = field.strip_prefix("~").unwrap_or("");
-    match read_nominal(digits) {
-        Ok(nominal) => print_nominal(rt, rate, nominal),
-        Err(_) => Ok(()),
+fn print_known(rt: &(impl Print + AllocGlobal), line: Line, known: Known<'_>) -> io::Result<()> {
+    match known {
+        Known::Exact(figure) => print_exact(rt, line, figure),
+        Known::Nominal(nominal) => print_nominal(rt, line, nominal),
     }
 }
 
 /// Everything about one line, and whether the known figures are met.
-pub(crate) fn print_sizes(rt: &HostRuntime, request: Request, text: &str) -> io::Result<()> {
+pub(crate) fn print_sizes(
+    rt: &(impl Print + AllocGlobal),
+    request: Request,
+    text: &str,
+) -> io::Result<()> {
     let Request {
         control,
         rate,
@@ -105,11 +96,13 @@ pub(crate) fn print_sizes(rt: &HostRuntime, request: Request, text: &str) -> io:
     println!(rt; "  character   {character} phi clocks back to back")?;
     println!(rt; "  deadline    {deadline} phi clocks")?;
     print_at(rt, line, SystemClock::Mhz3)?;
-    if let Divider::By4 = decoded.divider {
+    if decoded.divider == Divider::By4 {
         print_at(rt, line, SystemClock::Mhz4)?;
     }
     for field in text.split_whitespace().skip(4) {
-        print_known(rt, line, field)?;
+        if let Ok(known) = Known::read(field) {
+            print_known(rt, line, known)?;
+        }
     }
     println!(rt; "")
 }

@@ -1,68 +1,46 @@
 // One line of input: four numbers, then any known figures to compare with.
+use console::numbers::read_number;
 use faults::{Cause, Fault};
 use sizing::line::Line;
+use std::num::NonZeroU32;
 
-/// The numbers as they were written, and the line that they make.
+/// A known figure.
 #[derive(Clone, Copy)]
-pub(crate) struct Request {
-    pub control: u32,
-    pub rate: u32,
-    pub delay: u32,
-    pub label: u32,
-    pub line: Line,
+pub(crate) enum Known<'a> {
+    /// The format in short form, or the bit rate with two decimals.
+    Exact(&'a str),
+    /// A nominal rate, in bits a second.
+    Nominal(NonZeroU32),
 }
 
-/// Fields that are too few, too many or badly written.
-pub(crate) fn badly_written() -> Fault {
-    Fault::unplaced(Cause::BadFields)
+/// The numbers as they were written, and the line that they make. The known figures stay in the text, however many they are.
+#[derive(Clone, Copy)]
+pub(crate) struct Request {
+    pub(crate) control: u32,
+    pub(crate) rate: u32,
+    pub(crate) delay: u32,
+    pub(crate) label: u32,
+    pub(crate) line: Line,
 }
 
 // A decimal number, or a hexadecimal one behind 0x.
-pub(crate) fn read_number(field: &str) -> Result<u32, Fault> {
-    if field.starts_with("+") {
-        return Err(badly_written());
-    }
-    let read = match field.strip_prefix("0x") {
-        Some(digits) => {
-            if digits.starts_with("+") {
-                return Err(badly_written());
-            }
-            u32::from_str_radix(digits, 16)
-        }
-        None => field.parse::<u32>(),
+fn read_field(field: &str) -> Result<u32, Fault> {
+    let number = match field.strip_prefix("0x") {
+        Some(digits) => read_number(digits, 16),
+        None => read_number(field, 10),
     };
-    match read {
-        Ok(number) => Ok(number),
-        Err(_) => Err(badly_written()),
-    }
+    number.map_err(|_| Fault::from(Cause::BadFields))
 }
 
-fn read_field(field: Option<&str>) -> Result<u32, Fault> {
-    match field {
-        Some(text) => read_number(text),
-        None => Err(badly_written()),
-    }
-}
-
-/// The nominal rate behind a ~, in bits a second.
-pub(crate) fn read_nominal(digits: &str) -> Result<u32, Fault> {
-    match read_number(digits)? {
-        0 => Err(badly_written()),
-        nominal => Ok(nominal),
-    }
-}
-
-// A known figure is any text behind =, or a nominal rate behind ~.
-fn check_known(field: &str) -> Result<(), Fault> {
-    if field.starts_with("=") {
-        return Ok(());
-    }
-    match field.strip_prefix("~") {
-        Some(digits) => {
-            read_nominal(digits)?;
-            Ok(())
+impl<'a> Known<'a> {
+    /// Any text behind =, or a number above 0 behind ~.
+    pub(crate) fn read(field: &'a str) -> Result<Known<'a>, Fault> {
+        if let Some(text) = field.strip_prefix("=") {
+            return Ok(Known::Exact(text));
         }
-        None => Err(badly_written()),
+        let digits = field.strip_prefix("~").ok_or(Cause::BadFields)?;
+        let nominal = NonZeroU32::new(read_field(digits)?).ok_or(Cause::BadFields)?;
+        Ok(Known::Nominal(nominal))
     }
 }
 
@@ -70,12 +48,13 @@ impl Request {
     /// What a line of input asks for. Nothing of it is printed where any of its fields is at fault.
     pub(crate) fn read(text: &str) -> Result<Request, Fault> {
         let mut fields = text.split_whitespace();
-        let control = read_field(fields.next())?;
-        let rate = read_field(fields.next())?;
-        let delay = read_field(fields.next())?;
-        let label = read_field(fields.next())?;
+        let mut next = || read_field(fields.next().ok_or(Cause::BadFields)?);
+        let control = next()?;
+        let rate = next()?;
+        let delay = next()?;
+        let label = next()?;
         for field in fields {
-            check_known(field)?;
+            Known::read(field)?;
         }
         let line = Line::new(control, rate, delay, label)?;
         Ok(Request {

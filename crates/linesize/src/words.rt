@@ -5,6 +5,7 @@ ghost use Rattle.linesize.specs.Words.{parity_text, stop_text, format_text, pari
 use std::fmt;
 use timing::registers::{Control, Parity, StopLength};
 
+// A parity and a stop are written in two forms each: four functions are shorter than four types with a Display.
 fn parity_text(parity: Parity) -> &'static str
     ensures { result.now ≡ parity_text parity }
 {

@@ -1,7 +1,4 @@
 // A board with one chip in test mode.
-ghost use Rattle.std.specs.Prelude.{◌≡◌, true};
-ghost use Rattle.acc.specs.Sound.{sound};
-
 use acc::chip::{Acc, Received, Registers};
 
 /// What a clock did: the character that was stored, and whether INT rose.
@@ -11,15 +8,9 @@ pub(crate) struct Clocked {
     pub(crate) int_rises: bool,
 }
 
+#[derive(Drop)]
 pub(crate) struct Board {
     chip: Acc,
-    ghost sound: { sound chip ≡ true },
-}
-
-impl Drop for Board {
-    fn drop(self) {
-        let Board { chip: _ } = self;
-    }
 }
 
 impl Board {
@@ -48,18 +39,8 @@ impl Board {
         let int = self.chip.interrupt();
         self.chip.clock(true, false);
         let receiver = self.chip.receiver;
-        let stored = if rsbd && !receiver.rsbd() {
-            Some(Received {
-                character: receiver.buffer,
-                rfer: receiver.rfer,
-                rover: receiver.rover,
-                rper: receiver.rper,
-            })
-        } else {
-            None
-        };
         Clocked {
-            stored,
+            stored: (rsbd && !receiver.rsbd()).then_some(Received::from(receiver)),
             int_rises: !int && self.chip.interrupt(),
         }
     }

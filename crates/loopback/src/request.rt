@@ -1,5 +1,7 @@
 // One line of input: a control value, a rate, a wait and a label.
+use console::numbers::read_number;
 use faults::{Cause, Fault};
+use std::str;
 
 /// The numbers are in range, and the label has 1 to 80 bytes.
 #[derive(Clone, Copy)]
@@ -10,49 +12,23 @@ pub(crate) struct Request<'a> {
     pub(crate) label: &'a [u8],
 }
 
-// The bytes before the first space, and those behind it.
-fn split_field(bytes: &[u8]) -> Option<(&[u8], &[u8])> {
-    for i in 0..bytes.len() {
-        if bytes[i] == b' ' {
-            return Some((&bytes[0..i], &bytes[i + 1..]));
-        }
-    }
-    None
-}
-
-fn read_decimal(digits: &[u8]) -> Option<u32> {
-    if digits.is_empty() {
-        return None;
-    }
-    let mut value = 0u32;
-    for digit in digits {
-        match *digit {
-            b'0'..=b'9' => value = value.checked_mul(10)?.checked_add((*digit - b'0') as u32)?,
-            _ => return None,
-        }
-    }
-    Some(value)
-}
-
-// A number, and what follows the space behind it.
-fn read_field(bytes: &[u8]) -> Result<(u32, &[u8]), Fault> {
-    let Some((digits, rest)) = split_field(bytes) else {
-        return Err(Fault::unplaced(Cause::BadFields));
-    };
-    match read_decimal(digits) {
-        Some(number) => Ok((number, rest)),
-        None => Err(Fault::unplaced(Cause::BadFields)),
-    }
+fn read_field(field: Option<&[u8]>) -> Result<u32, Cause> {
+    field
+        .and_then(|bytes| str::from_utf8(bytes).ok())
+        .and_then(|digits| read_number(digits, 10).ok())
+        .ok_or(Cause::BadFields)
 }
 
 impl<'a> Request<'a> {
-    /// What a line of input asks for.
+    /// What a line of input asks for. The label is all that stands behind the third space.
     pub(crate) fn read(line: &'a [u8]) -> Result<Request<'a>, Fault> {
-        let (control, line) = read_field(line)?;
-        let (rate, line) = read_field(line)?;
-        let (wait, label) = read_field(line)?;
+        let mut fields = line.splitn(4, |byte| *byte == b' ');
+        let control = read_field(fields.next())?;
+        let rate = read_field(fields.next())?;
+        let wait = read_field(fields.next())?;
+        let label = fields.next().ok_or(Cause::BadFields)?;
         if control > 255 || rate > 2047 || wait > 1000000 || label.is_empty() || label.len() > 80 {
-            return Err(Fault::unplaced(Cause::OutOfRange));
+            return Err(Fault::from(Cause::OutOfRange));
         }
         Ok(Request {
             control: control as u8,

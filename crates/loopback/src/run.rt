@@ -12,7 +12,7 @@ fn when(set: bool, text: &'static str) -> &'static str {
 }
 
 fn print_character(
-    rt: &HostRuntime,
+    rt: &impl Print,
     clock: u32,
     what: &str,
     received: Received,
@@ -26,7 +26,7 @@ fn print_character(
 }
 
 /// Sends a label and prints what happens.
-pub(crate) fn send_label(rt: &HostRuntime, request: Request<'_>) -> io::Result<()> {
+pub(crate) fn send_label(rt: &impl Print, request: Request<'_>) -> io::Result<()> {
     let Request {
         control,
         rate,
@@ -36,13 +36,16 @@ pub(crate) fn send_label(rt: &HostRuntime, request: Request<'_>) -> io::Result<(
     let length = label.len();
     println!(rt; "control {control}, rate {rate}, wait {wait}, label length {length}")?;
     let mut board = Board::in_test_mode(control, rate);
-    let mut loaded = 0usize;
+    let mut to_load = label;
+    // a clock may store a character, take one, do both or neither, so both are counted as they come
     let mut stored = 0usize;
     let mut taken = 0usize;
     let mut int_rose = 0u32;
     for clock in 1..=CLOCK_LIMIT {
-        if loaded < length && board.load(label[loaded]) {
-            loaded += 1;
+        if let [character, others @ ..] = to_load
+            && board.load(*character)
+        {
+            to_load = others;
         }
         let clocked = board.clock();
         if clocked.int_rises {
@@ -58,11 +61,12 @@ pub(crate) fn send_label(rt: &HostRuntime, request: Request<'_>) -> io::Result<(
                 when(clocked.int_rises, "; INT rises"),
             )?;
         }
-        if board.interrupt() && clock.saturating_sub(int_rose) >= wait {
-            if let Some(received) = board.take() {
-                taken = taken.saturating_add(1);
-                print_character(rt, clock, "taken", received, "; INT falls")?;
-            }
+        if board.interrupt()
+            && clock.saturating_sub(int_rose) >= wait
+            && let Some(received) = board.take()
+        {
+            taken = taken.saturating_add(1);
+            print_character(rt, clock, "taken", received, "; INT falls")?;
         }
         if stored >= length && !board.interrupt() {
             return println!(rt; "  {taken} of {length} characters taken after {clock} clocks\n");

@@ -1,2 +1,3 @@
+pub mod Chips
 pub mod Rules
 pub mod Ranks

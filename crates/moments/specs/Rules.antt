@@ -16,6 +16,9 @@ barred a b = record { a = a; b = b }
 abbrev pub unbarred : Barred
 unbarred = barred false false
 
+abbrev pub barred_at : ℕ → Barred → Bool
+barred_at n s = (n == 0 && s.a) || (n == 1 && s.b)
+
 abbrev pub breaks : Rule → Barred → Event → Bool
 breaks EndExists s v = bad_end v
 breaks NumbersFit s v = bad_number v

@@ -1,12 +1,12 @@
 // What refuses the list of a moment: causes 4 to 7 and 11.
 ghost use Rattle.std.specs.Prelude.{◌≡◌, ◌≤◌, length, OnOk};
-ghost use Rattle.pair.specs.Bench.{at_place, end_of};
-ghost use Rattle.moments.specs.Rules.{shown_index, unbarred, breaks, bars, barred_by, refusal_at, checked, too_many, few_checked, list_checked};
+ghost use Rattle.moments.specs.Rules.{barred_at, breaks, bars, barred_by, refusal_at, checked, few_checked, list_checked};
 
-use faults::{Cause, End, Fault, Place};
+use faults::{Cause, End, Fault};
 use pair::event::Event;
 
 /// What is asked of every event of a list.
+// The rules are these four, and each `match` below says of each in a line what it does: a trait or closures would say the same in more.
 #[derive(Clone, Copy)]
 pub enum Rule {
     /// Its end is 0 or 1.
@@ -19,43 +19,23 @@ pub enum Rule {
     EndRecovered,
 }
 
-/// For each end, whether one more event of the kind that a rule looks at breaks it there.
-#[derive(Clone, Copy)]
+/// For each end, whether one more event of the kind that a rule looks at breaks it there. At first it does so at neither.
+#[derive(Clone, Copy, Default)]
 pub struct Barred {
     pub a: bool,
     pub b: bool,
 }
 
 impl Barred {
-    // Neither end.
-    fn neither() -> Barred
-        ensures { result ≡ unbarred }
+    // Whether it does so at the end of this number.
+    fn at(self, end: u32) -> bool
+        ensures { result ≡ barred_at end self }
     {
-        Barred { a: false, b: false }
-    }
-}
-
-/// A host's number of an end.
-pub fn end_of(number: u32) -> Option<End>
-    ensures { result ≡ end_of number }
-{
-    match number {
-        0 => Some(End::A),
-        1 => Some(End::B),
-        _ => None,
-    }
-}
-
-// A refusal at an event.
-fn at_event(index: usize, end: Option<End>, cause: Cause) -> Fault
-    ensures { result ≡ at_place (shown_index index) end cause }
-{
-    Fault {
-        cause,
-        place: Place {
-            index: index.min(4294967295) as u32,
-            end,
-        },
+        match end {
+            0 => self.a,
+            1 => self.b,
+            _ => false,
+        }
     }
 }
 
@@ -69,12 +49,8 @@ impl Rule {
             Rule::NumbersFit => {
                 event.kind > 1 || event.value > 1 || event.kind == 1 && event.address > 31
             }
-            Rule::DsrOnce => {
-                event.kind == 0 && (event.end == 0 && barred.a || event.end == 1 && barred.b)
-            }
-            Rule::EndRecovered => {
-                event.kind == 1 && (event.end == 0 && barred.a || event.end == 1 && barred.b)
-            }
+            Rule::DsrOnce => event.kind == 0 && barred.at(event.end),
+            Rule::EndRecovered => event.kind == 1 && barred.at(event.end),
         }
     }
 
@@ -100,16 +76,17 @@ impl Rule {
         }
     }
 
-    // The refusal of an event that breaks the rule.
+    // The refusal of the event at an index that breaks the rule. An index that needs more than 32 bits shows as the largest that they hold.
     fn refusal(self, index: usize, event: Event) -> Fault
         ensures { result ≡ refusal_at self index event }
     {
-        let end = end_of(event.end);
+        let index = u32::try_from(index).unwrap_or(u32::MAX);
+        let end = End::try_from(event.end).ok();
         match self {
-            Rule::EndExists => at_event(index, None, Cause::NoSuchEnd),
-            Rule::NumbersFit => at_event(index, end, Cause::OutOfRange),
-            Rule::DsrOnce => at_event(index, end, Cause::RepeatedDsr),
-            Rule::EndRecovered => at_event(index, end, Cause::Recovering),
+            Rule::EndExists => Cause::NoSuchEnd.at(index, None),
+            Rule::NumbersFit => Cause::OutOfRange.at(index, end),
+            Rule::DsrOnce => Cause::RepeatedDsr.at(index, end),
+            Rule::EndRecovered => Cause::Recovering.at(index, end),
         }
     }
 
@@ -118,40 +95,34 @@ impl Rule {
         ensures { result ≡ checked self start events.now }
     {
         let mut barred = start;
-        for i in 0..events.len() {
-            if self.is_broken(barred, events[i]) {
-                return Err(self.refusal(i, events[i]));
+        for (index, event) in events.iter().enumerate() {
+            if self.is_broken(barred, *event) {
+                return Err(self.refusal(index, *event));
             }
-            barred = self.barred_by(barred, events[i]);
+            barred = self.barred_by(barred, *event);
         }
         Ok(())
     }
 }
 
-// A moment has at most 32 events.
-fn too_many(events: &[Event]) -> bool
-    ensures { result ≡ too_many events.now }
-{
-    events.len() > 32
-}
-
-// The 33rd event is at fault.
+// A moment has at most 32 events: the 33rd is at fault.
 fn check_count(events: &[Event]) -> Result<(), Fault>
     ensures answer { result ≡ few_checked events.now }
     ensures few { OnOk result (length events.now ≤ 32) }
 {
-    if too_many(events) {
-        return Err(at_event(32, end_of(events[32].end), Cause::TooManyEvents));
+    match events.get(32) {
+        Some(event) => Err(Cause::TooManyEvents.at(32, End::try_from(event.end).ok())),
+        None => Ok(()),
     }
-    Ok(())
 }
 
 /// What can be said of a list without its bench: causes 4 to 7, 4 over the whole list before 5.
+// That an accepted list is short is a clause here and where it is served, and no fact of a type: the list is the caller's slice.
 pub fn check_list(events: &[Event]) -> Result<(), Fault>
     ensures answer { result ≡ list_checked events.now }
     ensures few { OnOk result (length events.now ≤ 32) }
 {
-    let none = Barred::neither();
+    let none = Barred::default();
     Rule::EndExists.check(none, events)?;
     Rule::NumbersFit.check(none, events)?;
     check_count(events)?;

@@ -1,22 +1,16 @@
 -- What a channel carries: each waiting pair stands for something that was sent, and its data level is what was sent, turned over as often as
 -- its count says. Assumes nothing.
-use Rattle.std.proofs.Common.{◌≡◌, ℕ, zero, suc, ◌%◌, Bool, true, false, cond, not, eqb, List, [], ◌∷◌, ◌++◌, length, sym, refl, ap, ◌∙◌, arith}
-use Rattle.std.proofs.lemmas.Bool.{eq-eqb, ne_eqb, eqb-true, eqb-false}
+use Rattle.std.proofs.Common.{◌≡◌, ℕ, zero, suc, Bool, true, false, cond, not, List, [], ◌∷◌, ◌++◌, length, sym, refl, ap, ◌∙◌, arith}
+use Rattle.std.proofs.lemmas.Bool.Decides.{nat_tests}
 use Rattle.cable.specs.Channels.{Pair, Flip, Channel, invert_at, due, struck, front, behind, handed, stepped}
 use Rattle.cable.specs.Passing.{turned}
 use Rattle.cable.specs.Turnings.{change_at, changed_by, first_of_list, behind_first, counts_entered, count_handed, odd}
 
 odd_suc : (n : ℕ) → odd (suc n) ≡ not (odd n)
-odd_suc n = by (eqb (n % 2) 1) refl
-  where
-    by : (b : Bool) → eqb (n % 2) 1 ≡ b → eqb (suc n % 2) 1 ≡ not b
-    by true e = let h = eqb-true (n % 2) 1 e in ne_eqb (suc n % 2) 1 (λ z. omega arith)
-    by false e = let h = eqb-false (n % 2) 1 e in eq-eqb (suc n % 2) 1 (omega arith)
+odd_suc n = grind (arith, nat_tests)
 
 not_turned : (a b : Bool) → not (turned a b) ≡ turned (not a) b
-not_turned true true = refl
-not_turned true false = refl
-not_turned false b = refl
+not_turned a b = grind arith
 
 pub data Carries {A : Type 0} (lev : A → Bool) : List Pair → List ℕ → List A → Type 0 where
   none : Carries lev [] [] []

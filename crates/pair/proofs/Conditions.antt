@@ -1,6 +1,6 @@
 -- What a run keeps to, as facts. Assumes nothing.
-use Rattle.std.proofs.Common.{◌≡◌, Bool, true, not, ◌&&◌, ◌||◌, ◌⊎◌, List, [], ◌∷◌, is_ok, inl, inr}
-use Rattle.std.proofs.lemmas.Bool.{and_parts, or_cases, not-true, both_ways}
+use Rattle.std.proofs.Common.{◌≡◌, Bool, true, not, ◌&&◌, ◌||◌, List, [], ◌∷◌, is_ok, arith}
+use Rattle.std.proofs.lemmas.Bool.{and_parts}
 use Rattle.faults.specs.declared.End.{End}
 use Rattle.faults.specs.declared.End.TheVariants as end
 use Rattle.cable.specs.Turnings.{flip_arrives}
@@ -32,11 +32,7 @@ CallsAllowed o (c ∷ cs) r = CallAllowed o c r × CallsAllowed o cs (after c r)
 
 -- a test that says "if a then b"
 implied : (a b : Bool) → (not a || b) ≡ true → a ≡ true → b ≡ true
-implied a b h e = by (or_cases (not a) b h)
-  where
-    by : (not a ≡ true) ⊎ (b ≡ true) → b ≡ true
-    by (inl k) = absurd (both_ways a (not-true a k) e)
-    by (inr k) = k
+implied a b h e = grind arith
 
 writes_are : (vs : List Event) → writes_allowed_bits vs ≡ true → WritesAllowedBits vs
 unfolding writes_allowed_bits WritesAllowedBits

@@ -1,8 +1,7 @@
 -- What calls do to a run, and to each of its two directions. Assumes nothing.
 use Rattle.std.proofs.Common.{◌≡◌, ℕ, ◌+◌, Bool, true, false, cond, leb, List, ◌∷◌, is_ok, Some, Ok, Err, Result, sym, refl, ap, ◌∙◌, subst, arith}
-use Rattle.std.proofs.lemmas.Bool.{both_ways}
 use Rattle.faults.specs.declared.Cause.{Cause}
-use Rattle.faults.specs.declared.Cause.TheVariants.{Recovering, BufferNotEnabled, BufferFull, NothingReceived, NotOpen, OutOfRange}
+use Rattle.faults.specs.declared.Cause.TheVariants.{Recovering, NothingReceived}
 use Rattle.faults.specs.declared.End.{End}
 use Rattle.faults.specs.declared.End.TheVariants as end
 use Rattle.faults.specs.declared.Fault.{Fault}
@@ -11,13 +10,12 @@ use Rattle.sections.specs.Receive.{released}
 use Rattle.sections.specs.Transmit.{buffer_loaded}
 use Rattle.acc.specs.declared.chip.Acc.{Acc}
 use Rattle.acc.specs.declared.chip.Received.{Received}
-use Rattle.acc.specs.Calls.{recovering, unless_refused, load_answer, load_of, take_answer, take_of, received_of}
+use Rattle.acc.specs.Calls.{recovering, load_answer, load_of, take_answer, take_of, received_of}
 use Rattle.acc.specs.Clock.{fires}
-use Rattle.acc.specs.Inputs.{flag}
 use Rattle.acc.specs.State.{with_transmitter, with_receiver}
 use Rattle.pair.specs.declared.event.Event.{Event}
-use Rattle.pair.specs.Bench.{Bench, chip, with_chip, at_place}
-use Rattle.pair.specs.Calls.{after_call, asked, at_end, load_reply, load_done, take_reply, take_done, moment_reply}
+use Rattle.pair.specs.Bench.{Bench, chip, with_chip}
+use Rattle.pair.specs.Calls.{after_call, asked, load_reply, load_done, take_reply, take_done, moment_reply}
 use Rattle.pair.specs.Moment.{with_both, set_all, after_rank_2, moved}
 use Rattle.pair.specs.Runs.{taken, History, Run, Call, load, take, moment, history, with_history, clock_noted, moment_noted, take_noted, after}
 use Rattle.pair.proofs.Link.{noted}
@@ -58,29 +56,15 @@ pub data Does (o : Bench) : Run → Run → Type 0 where
   moves : {r : Run} (vs : List Event) → WritesAllowedBits vs → ((e : End) → FallsInsideACharacter o e vs r) → Does o r (moved_run vs r)
 
 pub done_ok : {T : Type 0} (x : Result T Fault) (m n : Bench) → is_ok x ≡ true → after_call x m n ≡ m
-done_ok (Ok x) m n e = refl
-done_ok (Err f) m n e = absurd (both_ways false refl e)
+done_ok x m n e = grind arith
 
 -- an accepted call to an end is one that its chip accepts
 asked_ok : {T : Type 0} (x : End) (fits : Bool) (ask : Acc → Result T Cause) (m : Bench) → is_ok (asked (Some x) fits ask m) ≡ true → is_ok (ask (chip x m)) ≡ true
-asked_ok x fits ask m h = by fits m.is_open (ask (chip x m)) h
-  where
-    by : {T : Type 0} (a b : Bool) (c : Result T Cause) → is_ok (cond a (cond b (at_end x c) (Err (at_place 0 (Some x) NotOpen))) (Err (at_place 0 (Some x) OutOfRange))) ≡ true → is_ok c ≡ true
-    by true true (Ok y) e = refl
-    by true true (Err y) e = absurd (both_ways false refl e)
-    by true false c e = absurd (both_ways false refl e)
-    by false b c e = absurd (both_ways false refl e)
+asked_ok x fits ask m h = grind arith
 
 load_ok : (c : ℕ) (x : Acc) → is_ok (load_answer x) ≡ true → (load_of c x ≡ with_transmitter (buffer_loaded c x.transmitter) x) × (x.transmitter.xbre ≡ true)
 unfolding load_answer load_of
-load_ok c x h = by (recovering x) (flag x) x.transmitter.xbre h
-  where
-    by : (r f b : Bool) → is_ok {T = Unit {0}} {E = Cause} (cond r (Err Recovering) (cond f (Err BufferNotEnabled) (cond b (Ok tt) (Err BufferFull)))) ≡ true →
-        (unless_refused {T = Unit {0}} (cond r (Err Recovering) (cond f (Err BufferNotEnabled) (cond b (Ok tt) (Err BufferFull)))) (with_transmitter (buffer_loaded c x.transmitter) x) x ≡ with_transmitter (buffer_loaded c x.transmitter) x) × (b ≡ true)
-    by true f b e = absurd (both_ways false refl e)
-    by false true b e = absurd (both_ways false refl e)
-    by false false true e = (refl, refl)
-    by false false false e = absurd (both_ways false refl e)
+load_ok c x h = grind arith
 
 -- an accepted load finds XBRE 1
 pub load_empty : (x : End) (c : ℕ) (m : Bench) → is_ok (load_reply (end_number x) c m) ≡ true → (chip x m).transmitter.xbre ≡ true
@@ -114,8 +98,8 @@ unfolding take_answer take_of
 take_ok x y h = by (recovering x) x.receiver.rbrl refl refl h
   where
     by : (r b : Bool) → recovering x ≡ r → x.receiver.rbrl ≡ b → cond r (Err Recovering) (cond b (Ok (received_of x)) (Err NothingReceived)) ≡ Ok y → Took x y
-    by true b j k e = absurd (let z : ◌≡◌ {A = ℕ} 0 1 = cc in omega arith)
-    by false false j k e = absurd (let z : ◌≡◌ {A = ℕ} 0 1 = cc in omega arith)
+    by true b j k e = cc
+    by false false j k e = cc
     by false true j k e = record {
       answered = (let z : y ≡ received_of x = cc in z);
       found = k;
@@ -123,12 +107,7 @@ take_ok x y h = by (recovering x) x.receiver.rbrl refl refl h
     }
 
 asked_answer : {T : Type 0} (x : End) (ask : Acc → Result T Cause) (m : Bench) (y : T) → asked (Some x) true ask m ≡ Ok y → ask (chip x m) ≡ Ok y
-asked_answer x ask m y h = by m.is_open (ask (chip x m)) h
-  where
-    by : {T : Type 0} {y : T} (b : Bool) (c : Result T Cause) → cond b (at_end x c) (Err (at_place 0 (Some x) NotOpen)) ≡ Ok y → c ≡ Ok y
-    by true (Ok z) e = cc
-    by true (Err z) e = absurd (let w : ◌≡◌ {A = ℕ} 0 1 = cc in omega arith)
-    by false c e = absurd (let w : ◌≡◌ {A = ℕ} 0 1 = cc in omega arith)
+asked_answer x ask m y h = grind arith
 
 took : (x : End) (m : Bench) (y : Received) → take_reply (end_number x) m ≡ Ok y → Took (chip x m) y
 took end.A m y h = take_ok m.a y (asked_answer end.A take_answer m y h)

@@ -1,6 +1,6 @@
 -- What settings, allowed writes and clocks leave of a chip. Assumes nothing.
-use Rattle.std.proofs.Common.{◌≡◌, ℕ, Bool, true, false, cond, not, ◌&&◌, ◌||◌, eqb, ◌⊎◌, List, [], ◌∷◌, sym, refl, ap, ◌∙◌, subst, inl, inr}
-use Rattle.std.proofs.lemmas.Bool.{both_ways, eqb-true, or_cases}
+use Rattle.std.proofs.Common.{◌≡◌, ℕ, Bool, true, false, cond, not, ◌&&◌, List, [], ◌∷◌, refl, ap, ◌∙◌, arith}
+use Rattle.std.proofs.lemmas.Bool.Decides.{nat_tests}
 use Rattle.faults.specs.declared.End.{End}
 use Rattle.timing.specs.declared.counts.PhiCount.{PhiCount}
 use Rattle.timing.specs.Counts.{phi}
@@ -40,33 +40,16 @@ normal = record { tstmd = false; brkon = false }
 pub kept_setting : {A : Type 0} (look : Acc → A) → ((v : Bool) (x : Acc) → look (dsr_set v x) ≡ look x) → (e : End) (vs : List Event) (x : Acc) → look (set_all e vs x) ≡ look x
 unfolding set_all
 kept_setting look k e [] x = refl
-kept_setting look k e (v ∷ vs) x = kept_setting look k e vs (cond (dsr_at e v) (dsr_set (level_of v) x) x) ∙ by (dsr_at e v)
-  where
-    by : (b : Bool) → look (cond b (dsr_set (level_of v) x) x) ≡ look x
-    by true = k (level_of v) x
-    by false = refl
+kept_setting look k e (v ∷ vs) x =
+    let one = k (level_of v) x in
+    let rest = kept_setting look k e vs (cond (dsr_at e v) (dsr_set (level_of v) x) x) in
+    grind arith
 
 pub set_core : (e : End) (vs : List Event) (x : Acc) → core (set_all e vs x) ≡ core x
 set_core = kept_setting core (λ v x. refl)
 
 pub set_rts : (e : End) (vs : List Event) (x : Acc) → (set_all e vs x).lines.rts ≡ x.lines.rts
 set_rts = kept_setting (λ x. x.lines.rts) (λ v x. refl)
-
--- an allowed bit is one of four
-allowed_cases : (P : ℕ → Type 0) → P 16 → P 19 → P 20 → P 21 → (a : ℕ) → bit_allowed a ≡ true → P a
-allowed_cases P p16 p19 p20 p21 a h = first (or_cases (eqb a 16) (eqb a 19 || (eqb a 20 || eqb a 21)) h)
-  where
-    third : (eqb a 20 ≡ true) ⊎ (eqb a 21 ≡ true) → P a
-    third (inl e) = subst P (sym (eqb-true a 20 e)) p20
-    third (inr e) = subst P (sym (eqb-true a 21 e)) p21
-
-    second : (eqb a 19 ≡ true) ⊎ ((eqb a 20 || eqb a 21) ≡ true) → P a
-    second (inl e) = subst P (sym (eqb-true a 19 e)) p19
-    second (inr e) = third (or_cases (eqb a 20) (eqb a 21) e)
-
-    first : (eqb a 16 ≡ true) ⊎ ((eqb a 19 || (eqb a 20 || eqb a 21)) ≡ true) → P a
-    first (inl e) = subst P (sym (eqb-true a 16 e)) p16
-    first (inr e) = second (or_cases (eqb a 19) (eqb a 20 || eqb a 21) e)
 
 -- what an allowed write keeps, all of them keep
 kept_writing : (P : Acc → Type 0) → ((a : ℕ) (v : Bool) (x : Acc) → bit_allowed a ≡ true → P x → P (write_of a v x)) → (e : End) (vs : List Event) (x : Acc) → WritesAllowedBits vs → P x → P (write_all e vs x)
@@ -81,18 +64,14 @@ kept_writing P k e (v ∷ vs) x m p = kept_writing P k e vs (cond (write_at e v)
 
 allowed_core : (x : Acc) (v : Bool) (a : ℕ) → bit_allowed a ≡ true → core (write_of a v x) ≡ core x
 unfolding write_of
-allowed_core x v = allowed_cases (λ a. core (write_of a v x) ≡ core x) refl refl refl refl
+allowed_core x v a h = grind (arith, nat_tests)
 
 pub write_core : (e : End) (vs : List Event) (x : Acc) → WritesAllowedBits vs → core (write_all e vs x) ≡ core x
 write_core e vs x m = kept_writing (λ y. core y ≡ core x) (λ a v y h p. allowed_core y v a h ∙ p) e vs x m refl
 
 allowed_rts : (x : Acc) (v : Bool) (a : ℕ) → bit_allowed a ≡ true → x.lines.rts ≡ true → (write_of a v x).lines.rts ≡ true
 unfolding write_of
-allowed_rts x v = allowed_cases (λ a. x.lines.rts ≡ true → (write_of a v x).lines.rts ≡ true) (by v) (λ p. p) (λ p. p) (λ p. p)
-  where
-    by : (v : Bool) → x.lines.rts ≡ true → cond v true x.lines.rts ≡ true
-    by true p = refl
-    by false p = p
+allowed_rts x v a h r = grind (arith, nat_tests)
 
 -- RTS once active stays so
 pub write_rts : (e : End) (vs : List Event) (x : Acc) → WritesAllowedBits vs → x.lines.rts ≡ true → (write_all e vs x).lines.rts ≡ true
@@ -128,20 +107,9 @@ kept_ending look k x = by (not x.lines.rtson && (xsre x.transmitter && (x.transm
 
 pub clock_full : (rin cts : Bool) (x : Acc) → core (clock_of rin cts x) ≡ full_clock x.lines.rts rin cts (core x)
 unfolding clock_of serve_of
-clock_full rin cts x = by (fires x)
-  where
-    y : Acc
-    y = divided (begun_clock rin cts x)
-
-    by : (b : Bool) → core (cond b (serve_of y) y) ≡ record {
-      registers = x.registers;
-      modes = x.modes;
-      transmitter = cond b (send x.registers.control x.registers.transmit_rate x.modes.brkon (x.lines.rts && cond x.modes.tstmd x.lines.rts cts) x.transmitter) x.transmitter;
-      receiver = cond b (listen x.registers.control x.registers.receive_rate (cond x.modes.tstmd x.transmitter.xout rin) x.receiver) x.receiver;
-      divider = phi (advanced (q_at x.registers) x.divider.0);
-    }
-    by true = kept_ending core (λ z. refl) (transmitted (listened (timed (compared y))))
-    by false = refl
+clock_full rin cts x =
+    let ended = kept_ending core (λ z. refl) (transmitted (listened (timed (compared (divided (begun_clock rin cts x)))))) in
+    grind arith
 
 abbrev as_if : Registers → Modes → Core → Core
 as_if g m k = record { registers = g; modes = m; transmitter = k.transmitter; receiver = k.receiver; divider = k.divider }
@@ -155,20 +123,11 @@ clock_core g x y rin cts e r m =
 -- CTS as the clock took it
 pub clock_cts : (rin cts : Bool) (x : Acc) → x.modes ≡ normal → (clock_of rin cts x).lines.cts ≡ cts
 unfolding clock_of serve_of
-clock_cts rin cts x m = by (fires x) ∙ ap (λ (n : Modes). cond n.tstmd x.lines.rts cts) m
-  where
-    y : Acc
-    y = divided (begun_clock rin cts x)
-
-    by : (b : Bool) → (cond b (serve_of y) y).lines.cts ≡ cond x.modes.tstmd x.lines.rts cts
-    by true = kept_ending (λ z. z.lines.cts) (λ z. refl) (transmitted (listened (timed (compared y))))
-    by false = refl
+clock_cts rin cts x m =
+    let ended = kept_ending (λ z. z.lines.cts) (λ z. refl) (transmitted (listened (timed (compared (divided (begun_clock rin cts x)))))) in
+    grind arith
 
 -- RTS falls at internal clocks alone
 pub clock_rts : (rin cts : Bool) (x : Acc) → fires x ≡ false → (clock_of rin cts x).lines.rts ≡ x.lines.rts
 unfolding clock_of
-clock_rts rin cts x f = by (fires x) f
-  where
-    by : (b : Bool) → b ≡ false → (cond b (serve_of (divided (begun_clock rin cts x))) (divided (begun_clock rin cts x))).lines.rts ≡ x.lines.rts
-    by true e = absurd (both_ways true e refl)
-    by false e = refl
+clock_rts rin cts x f = grind arith

@@ -1,7 +1,8 @@
 -- The n-th character stored is a copy of the n-th loaded. Assumes nothing.
-use Rattle.std.proofs.Common.{◌≡◌, ℕ, suc, ◌<◌, Bool, true, false, cond, eqb, List, [], ◌∷◌, ◌++◌, length, Some, sym, refl, ap, ◌∙◌, arith}
+use Rattle.std.proofs.Common.{◌≡◌, ℕ, ◌<◌, Bool, true, false, cond, eqb, List, [], ◌∷◌, ◌++◌, length, Some, sym, refl, ap, ◌∙◌, arith}
 use Rattle.std.proofs.lemmas.List.{append_assoc, length-append}
-use Rattle.std.proofs.lemmas.Bool.{eqb-true, eqb-false, ne_eqb, eq-eqb}
+use Rattle.std.proofs.lemmas.Bool.Decides.{nat_tests}
+use Rattle.std.proofs.lemmas.Bool.{eqb-false}
 use Rattle.timing.specs.declared.registers.Format.{Format}
 use Rattle.sections.specs.declared.receiver.Receiving.{Receiving}
 use Rattle.pair.specs.Runs.{Stored}
@@ -61,17 +62,13 @@ nth_there (x ∷ xs) n h = by (eqb (length xs) n) refl (λ k. nth_there xs n k)
 
 pub nth_few : {X : Type 0} (xs : List X) (n : ℕ) (x : X) → nth xs n ≡ Some x → n < length xs
 unfolding nth
-nth_few [] n x h = absurd (let z : ◌≡◌ {A = ℕ} 0 1 = cc in omega arith)
-nth_few (y ∷ xs) n x h = by (eqb (length xs) n) refl h (λ k. nth_few xs n x k)
-  where
-    by : (b : Bool) → eqb (length xs) n ≡ b → cond b (Some y) (nth xs n) ≡ Some x → (nth xs n ≡ Some x → n < length xs) → n < suc (length xs)
-    by true e k ih = let z = eqb-true (length xs) n e in omega arith
-    by false e k ih = let z = ih k in omega arith
+nth_few [] n x h = cc
+nth_few (y ∷ xs) n x h = grind (arith, nat_tests, nth_few xs n x)
 
 nth_newer : (zs xs : List ℕ) (n : ℕ) → n < length xs → nth (zs ++ xs) n ≡ nth xs n
 unfolding nth
 nth_newer [] xs n h = refl
-nth_newer (z ∷ zs) xs n h = let e : eqb (length (zs ++ xs)) n ≡ false = ne_eqb (length (zs ++ xs)) n (λ y. omega (arith, length-append zs xs)) in rw e (nth_newer zs xs n h)
+nth_newer (z ∷ zs) xs n h = grind (arith, nat_tests, length-append, nth_newer zs xs n h)
 
 -- what is older keeps its number
 pub nth_oldest : (xs ys : List ℕ) (n : ℕ) → Oldest xs ys → n < length xs → nth ys n ≡ nth xs n
@@ -79,11 +76,11 @@ nth_oldest xs ys n o h = ap (λ l. nth l n) o.all ∙ nth_newer o.newer xs n h
 
 pub nth_last : (c : ℕ) (xs : List ℕ) → nth (c ∷ xs) (length xs) ≡ Some c
 unfolding nth
-nth_last c xs = rw (eq-eqb (length xs) (length xs) refl) refl
+nth_last c xs = grind (arith, nat_tests)
 
 matches_nth : (f : Format) (σ : ℕ → Bool) (ss : List Stored) (p : List ℕ) → Matches f σ ss p → (n : ℕ) (s : Stored) → nth ss n ≡ Some s → (c : ℕ) × (nth p n ≡ Some c) × Copy f σ c s
 unfolding Matches nth
-matches_nth f σ [] [] m n s h = absurd (let z : ◌≡◌ {A = ℕ} 0 1 = cc in omega arith)
+matches_nth f σ [] [] m n s h = cc
 matches_nth f σ [] (c ∷ p) m n s h = absurd m
 matches_nth f σ (t ∷ ss) [] m n s h = absurd m
 matches_nth f σ (t ∷ ss) (c ∷ p) m n s h =

@@ -144,8 +144,8 @@ module _ (b : Boards) (fit : Fit b) (σ : ℕ → Bool) where
     where
       ended_at : {p : List ℕ} {x d : ℕ} {st : Sending} {out : Bool} → Sends (format b) (stop b) (q_at b.s) (half_count b.s.transmit_rate) p x d st out → st ≡ Idle → Ended (format b) (sent_half b) p x
       ended_at (rests e) h = e
-      ended_at (sends k hk hn lo at r o) h = absurd (let z : ◌≡◌ {A = ℕ} 0 1 = cc in omega arith)
-      ended_at (stops hn lo at) h = absurd (let z : ◌≡◌ {A = ℕ} 0 1 = cc in omega arith)
+      ended_at (sends k hk hn lo at r o) h = cc
+      ended_at (stops hn lo at) h = cc
 
       by : (p : List ℕ) → i.sent.past ≡ p → Ended (format b) (sent_half b) p i.sent.phase → Moves (length l.loaded) (length i.under_way + 1) l i
       by [] same e = let all : l.loaded ≡ i.sent.past = rw empty at i.loads in absurd (omega (arith, ap length all, ap length same, some))

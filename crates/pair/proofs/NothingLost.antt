@@ -36,7 +36,7 @@ answered (taken x ∷ (stored s ∷ hs)) t h = ap (λ y. y ∷ taken_in hs) t.0 
 -- no overrun
 no_overrun : (hs : List Happening) → OverrunTellsAnUntakenCharacter hs → each_taken_before_the_next hs ≡ true → (n : ℕ) (s : Stored) → nth (stored_in hs) n ≡ Some s → s.received.rover ≡ false
 unfolding OverrunTellsAnUntakenCharacter each_taken_before_the_next stored_in nth
-no_overrun [] v h n s k = absurd (let z : ◌≡◌ {A = ℕ} 0 1 = cc in omega arith)
+no_overrun [] v h n s k = cc
 no_overrun (taken x ∷ hs) v h n s k = no_overrun hs v h n s k
 no_overrun (stored t ∷ hs) v h n s k =
     let both = and_parts (not (one_waits hs)) (each_taken_before_the_next hs) h in
@@ -49,7 +49,7 @@ no_overrun (stored t ∷ hs) v h n s k =
 
 nth_answers : (ss : List Stored) (n : ℕ) (x : Received) → nth (answers ss) n ≡ Some x → (s : Stored) × (nth ss n ≡ Some s) × (s.received ≡ x)
 unfolding nth
-nth_answers [] n x h = absurd (let z : ◌≡◌ {A = ℕ} 0 1 = cc in omega arith)
+nth_answers [] n x h = cc
 nth_answers (s ∷ ss) n x h = by (eqb (length ss) n) (ap (λ k. eqb k n) (length-map ss (λ (s : Stored). s.received))) h (nth_answers ss n x)
   where
     by : (b : Bool) → eqb (length (answers ss)) n ≡ b → cond (eqb (length (answers ss)) n) (Some s.received) (nth (answers ss) n) ≡ Some x → (nth (answers ss) n ≡ Some x → (t : Stored) × (nth ss n ≡ Some t) × (t.received ≡ x)) → (t : Stored) × (cond b (Some s) (nth ss n) ≡ Some t) × (t.received ≡ x)

@@ -1,5 +1,5 @@
 -- The bits of a word, samples that are inverted, and parity. Assumes nothing.
-use Rattle.std.proofs.Common.{◌≡◌, ℕ, zero, suc, ◌+◌, ◌/◌, ◌%◌, ◌^◌, ◌<◌, Bool, true, false, cond, not, eqb, List, [], ◌∷◌, ◌++◌, length, get_or, sym, refl, ap, ◌∙◌, mod-eq_of_lt, div-one, arith}
+use Rattle.std.proofs.Common.{◌≡◌, ℕ, zero, suc, ◌+◌, ◌/◌, ◌%◌, ◌^◌, ◌<◌, Bool, true, false, cond, eqb, List, [], ◌∷◌, ◌++◌, length, get_or, sym, refl, ap, ◌∙◌, mod-eq_of_lt, div-one, arith}
 use native.Mathlib.Nat.{div-div-eq-div-mul, pow-succ'}
 use Rattle.std.proofs.lemmas.List.{get_or_append_left}
 use Rattle.timing.specs.declared.registers.Format.{Format}
@@ -9,26 +9,8 @@ use Rattle.timing.specs.Ones.{bits, odd_among, parity_by, parity_bit}
 use Rattle.timing.specs.Registers.{bit, width}
 use Rattle.timing.proofs.Bits.{bits_low, bits_above}
 use Rattle.sections.specs.Transmit.{word_of}
+use Rattle.cable.proofs.Turned.{turned_turned, turned_swap}
 use Rattle.cable.specs.Passing.{turned}
-
-turned_turned : (a b c : Bool) → turned (turned a b) c ≡ turned a (turned b c)
-turned_turned true true true = refl
-turned_turned true true false = refl
-turned_turned true false c = refl
-turned_turned false b c = refl
-
-turned_swap : (a b c : Bool) → turned a (turned b c) ≡ turned b (turned a c)
-turned_swap true true c = refl
-turned_swap true false c = refl
-turned_swap false b c = refl
-
-turned_self : (a : Bool) → turned a a ≡ false
-turned_self true = refl
-turned_self false = refl
-
-turned_not : (a : Bool) → turned (not a) a ≡ true
-turned_not true = refl
-turned_not false = refl
 
 -- bit k of the half is bit k + 1
 bit_half : (k c : ℕ) → bit k (c / 2) ≡ bit (suc k) c
@@ -88,12 +70,7 @@ unfolding turn_each odd_among
 odd_turn_each [] [] h = refl
 odd_turn_each [] (b ∷ bs) h = absurd (omega arith)
 odd_turn_each (s ∷ ss) [] h = absurd (omega arith)
-odd_turn_each (s ∷ ss) (b ∷ bs) h =
-    let ih = odd_turn_each ss bs (omega arith) in
-    let a = turned_turned s b (odd_among (turn_each ss bs)) in
-    let c = turned_turned s (odd_among ss) (turned b (odd_among bs)) in
-    let d = turned_swap b (odd_among ss) (odd_among bs) in
-    cc
+odd_turn_each (s ∷ ss) (b ∷ bs) h = let ih = odd_turn_each ss bs (omega arith) in grind (arith, turned_turned, turned_swap)
 
 odd_push : (bs : List Bool) (b : Bool) → odd_among (bs ++ b ∷ []) ≡ turned b (odd_among bs)
 unfolding odd_among
@@ -121,8 +98,8 @@ odd_sent Odd b = true
 
 odd_with_parity : (p : Parity) (b : Bool) → turned (parity_by p b) b ≡ odd_sent p b
 odd_with_parity Disabled b = refl
-odd_with_parity Even b = turned_self b
-odd_with_parity Odd b = turned_not b
+odd_with_parity Even b = grind arith
+odd_with_parity Odd b = grind arith
 
 pub odd_word : (f : Format) (c : ℕ) → odd_among (bits (suc (width f.length)) (word_of f c)) ≡ odd_sent f.parity (odd_among (bits (width f.length) c))
 unfolding parity_bit

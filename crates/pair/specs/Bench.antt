@@ -1,9 +1,8 @@
 -- A bench: two chips, the meaning of the cable between them, and the clock. Assumes nothing.
-use Rattle.std.specs.Prelude.{ℕ, ◌+◌, Bool, cond, Some, None, Option, ◌==◌}
-use Rattle.faults.specs.declared.Cause.{Cause}
+use Rattle.std.specs.Prelude.{ℕ, ◌+◌, Bool}
 use Rattle.faults.specs.declared.End.{End}
 use Rattle.faults.specs.declared.End.TheVariants as end
-use Rattle.faults.specs.declared.Fault.{Fault}
+pub use Rattle.faults.specs.Faults.{end_of, at_place}
 use Rattle.cable.specs.declared.direction.Direction.TheVariants.{TowardB, TowardA}
 use Rattle.cable.specs.Channels.{Channels, handed, channels_stepped}
 use Rattle.acc.specs.declared.chip.Acc.{Acc}
@@ -23,14 +22,6 @@ chip end.B m = m.b
 abbrev pub with_chip : End → Acc → Bench → Bench
 with_chip end.A e m = record { a = e; b = m.b; channels = m.channels; clock = m.clock; is_open = m.is_open }
 with_chip end.B e m = record { a = m.a; b = e; channels = m.channels; clock = m.clock; is_open = m.is_open }
-
--- a host's number of an end: 0 is A, 1 is B
-abbrev pub end_of : ℕ → Option End
-end_of n = cond (n == 0) (Some end.A) (cond (n == 1) (Some end.B) None)
-
--- a refusal at an event, or at a call's own end
-abbrev pub at_place : ℕ → Option End → Cause → Fault
-at_place index e c = record { cause = c; place = record { index = index; end = e } }
 
 -- the last clock
 abbrev pub last_clock : ℕ

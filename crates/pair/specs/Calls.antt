@@ -13,16 +13,9 @@ use Rattle.acc.specs.declared.chip.Received.{Received}
 use Rattle.acc.specs.declared.chip.Registers.{Registers}
 use Rattle.acc.specs.Calls.{opened_chip, put_answer, put_of, get_answer, load_answer, load_of, take_answer, take_of}
 use Rattle.pair.specs.declared.event.Event.{Event}
+pub use Rattle.pair.specs.declared.opening.Opening.{Opening}
 use Rattle.pair.specs.Bench.{Bench, chip, with_chip, end_of, at_place, last_clock}
 use Rattle.pair.specs.Moment.{moment_refusal, moved, served_list}
-
--- the numbers that open takes
-pub record Opening : Type 0 where
-  pub start : ℕ
-  pub control : ℕ
-  pub x : ℕ
-  pub r : ℕ
-  pub interval : ℕ
 
 abbrev pub opening_fits : Opening → Bool
 opening_fits o = nat_le o.start last_clock && (control_fits o.control && (rate_fits o.x && (rate_fits o.r && nat_le o.interval 255)))

@@ -3,5 +3,6 @@
 
 pub mod event;
 pub mod law;
+pub mod opening;
 pub mod ranks;
 pub mod rows;

@@ -4,29 +4,21 @@ ghost use Rattle.pair.specs.Ranks.{WritesCannotHideAnOverrun, MomentsAreSingleMo
 
 /// In the moment of a stop sample the receiver is served before the writes: ROVER is afterwards the RBRL that stood before, whatever is written
 /// short of a reset.
-pub fn writes_cannot_hide_an_overrun() -> u8
+pub fn writes_cannot_hide_an_overrun()
     ensures { WritesCannotHideAnOverrun }
-{
-    0
-}
+{}
 
 /// n moments without events, as one call that is accepted, are n calls of one such moment.
-pub fn moments_are_single_moments() -> u8
+pub fn moments_are_single_moments()
     ensures { MomentsAreSingleMoments }
-{
-    0
-}
+{}
 
 /// What a receiver holds for the processor changes exactly at the clocks that a history notes as stop samples.
-pub fn stored_exactly_at_stop_samples() -> u8
+pub fn stored_exactly_at_stop_samples()
     ensures { StoredExactlyAtStopSamples }
-{
-    0
-}
+{}
 
 /// Whatever loads, takes, moments and n moments a host makes, with any numbers, they leave the bench that a run leaves.
-pub fn host_calls_are_a_run() -> u8
+pub fn host_calls_are_a_run()
     ensures { HostCallsAreARun }
-{
-    0
-}
+{}

@@ -3,16 +3,12 @@ ghost use Rattle.pair.specs.Rows.{Rows};
 ghost use Rattle.pair.specs.Transmission.{FurtherRows};
 
 /// A character loaded at A is stored at B after 63 moments and not before; a flip on a sample changes its bit, and one beside it none.
-pub fn rows_hold() -> u8
+pub fn rows_hold()
     ensures { Rows }
-{
-    0
-}
+{}
 
 /// Whole calls and whole runs, computed: characters that arrive at the last moment of their deadline, both ways, over a delay, with flips on
 /// samples and beside them, with an overrun and without CTS; what the law asks of flips; the edges of puts.
-pub fn further_rows_hold() -> u8
+pub fn further_rows_hold()
     ensures { FurtherRows }
-{
-    0
-}
+{}

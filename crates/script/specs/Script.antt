@@ -8,22 +8,14 @@ use Rattle.acc.specs.declared.chip.Received.{Received}
 use Rattle.cable.specs.Delay.{straight_channels}
 use Rattle.pair.specs.Bench.{Bench}
 use Rattle.pair.specs.Calls.{open_answer, open_of, moments_reply, moments_done, put_reply, put_done, get_reply, load_reply, load_done, take_reply, take_done}
-use Rattle.bench.specs.View.{bench_of, unopened, opening}
+use Rattle.bench.specs.View.{unopened}
 use Rattle.lines.specs.declared.command.Command.{Command}
 use Rattle.lines.specs.declared.command.Command.TheVariants.{Open, Moments, Put, Get, Load, Take}
 use Rattle.lines.specs.declared.reply.Reply.{Reply}
 use Rattle.lines.specs.declared.reply.Reply.TheVariants.{Done, Number, Character, Refused}
 use Rattle.lines.specs.Format.{parsed}
 use Rattle.lines.specs.Texts.{reply_text, has_room, over}
-use Rattle.script.specs.declared.Script.{Script}
-
--- the bench, and how many lines were read
-pub record State : Type 0 where
-  pub bench : Bench
-  pub lines : ℕ
-
-abbrev pub state_of : Script → State
-state_of s = record { bench = bench_of (λ _. straight_channels) s.bench; lines = s.lines }
+use Rattle.script.specs.State.{State}
 
 -- before the first line
 abbrev pub fresh : State
@@ -44,7 +36,7 @@ as_character (Err f) = Err f
 
 -- what a command is answered; a bench is opened at clock 0
 abbrev pub obeyed : Command → Bench → Result Reply Fault
-obeyed (Open control x r interval) m = as_done (open_answer (opening 0 control x r interval) m)
+obeyed (Open control x r interval) m = as_done (open_answer (record { start = 0; control = control; x = x; r = r; interval = interval }) m)
 obeyed (Moments n) m = as_done (moments_reply n m)
 obeyed (Put end address count value) m = as_done (put_reply end address count value m)
 obeyed (Get end address count) m = as_number (get_reply end address count m)
@@ -53,19 +45,14 @@ obeyed (Take end) m = as_character (take_reply end m)
 
 -- and what it leaves
 abbrev pub left_by : Command → Bench → Bench
-left_by (Open control x r interval) m = open_of (opening 0 control x r interval) m
+left_by (Open control x r interval) m = open_of (record { start = 0; control = control; x = x; r = r; interval = interval }) m
 left_by (Moments n) m = moments_done n m
 left_by (Put end address count value) m = put_done end address count value m
 left_by (Get end address count) m = m
 left_by (Load end character) m = load_done end character m
 left_by (Take end) m = take_done end m
 
--- a cause of the line itself concerns no event and no end
-abbrev pub unplaced_cause : {T : Type 0} → Result T Cause → Result T Fault
-unplaced_cause (Ok x) = Ok x
-unplaced_cause (Err c) = Err (unplaced c)
-
--- what a line is answered, and what it leaves: its command is obeyed, if it has one
+-- what a line is answered, and what it leaves: its command is obeyed, if it has one; a cause of the line itself concerns no event and no end
 abbrev pub line_answer : Result Command Cause → Bench → Result Reply Fault
 line_answer (Ok c) m = obeyed c m
 line_answer (Err c) m = Err (unplaced c)

@@ -1,2 +1,1 @@
 pub mod Nine
-pub mod Widths

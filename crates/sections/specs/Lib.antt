@@ -1,4 +1,5 @@
 pub mod Bits
+pub mod Fields
 pub mod Receive
 pub mod Time
 pub mod Transmit

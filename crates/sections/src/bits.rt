@@ -1,13 +1,15 @@
-// One bit of a register, written.
-ghost use Rattle.std.specs.Prelude.{◌≡◌, ◌≤◌};
-ghost use Rattle.sections.specs.Bits.{bit_written, written_by};
+// Bits of a number, written one at a time.
+ghost use Rattle.std.specs.Prelude.{◌≡◌, ◌+◌, ◌^◌, ◌<◌, ◌≤◌, if◌then◌else◌};
+ghost use Rattle.sections.specs.Bits.{bit_written};
 
-// A register of so many bits after a write to bit k.
-fn put_bit(width: u16, n: u16, k: u16, v: bool) -> u16
-    requires { width ≤ 16 }
-    ensures { result ≡ written_by width k v n }
+/// A register of so many bits after a write to bit k; a bit beyond its width does nothing.
+#[tactic(auto, using(std::proofs::lemmas::Nat::or_lt, std::proofs::lemmas::Nat::pow_below), unfolding(crate::specs::Bits::bit_written))]
+pub fn with_bit<const WIDTH: u16>(n: u16, k: u16, v: bool) -> u16
+    requires { WIDTH ≤ 16 }
+    ensures value { result ≡ bit_written WIDTH k v n }
+    ensures within { n < 2 ^ WIDTH → result < 2 ^ WIDTH }
 {
-    if k >= width {
+    if k >= WIDTH {
         n
     } else if v {
         n | (1 << k)
@@ -16,16 +18,12 @@ fn put_bit(width: u16, n: u16, k: u16, v: bool) -> u16
     }
 }
 
-/// A register of eight bits after a write to bit k; a bit beyond its width does nothing.
-pub fn byte_with_bit(n: u8, k: u16, v: bool) -> u8
-    ensures { result ≡ bit_written 8 k v n }
+/// A number of so many bits with one bit more, above those that are there.
+pub fn with_bit_above(n: u16, count: u8, bit: bool) -> u16
+    requires few { count ≤ 15 }
+    requires low { n < 2 ^ count }
+    ensures value { result ≡ n + (if bit then 2 ^ count else 0) }
+    ensures low { result < 2 ^ (count + 1) }
 {
-    put_bit(8, n as u16, k, v) as u8
-}
-
-/// A register of eleven bits after a write to bit k; a bit beyond its width does nothing.
-pub fn rate_with_bit(n: u16, k: u16, v: bool) -> u16
-    ensures { result ≡ bit_written 11 k v n }
-{
-    put_bit(11, n, k, v)
+    if bit { n + (1 << count) } else { n }
 }

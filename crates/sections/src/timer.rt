@@ -1,10 +1,13 @@
 // The interval timer.
-ghost use Rattle.std.specs.Prelude.{◌≡◌, true};
-ghost use Rattle.sections.specs.Time.{ticked, counted, tick_of, timer_loaded, timer_at, acknowledged, sound_timer};
+ghost use Rattle.std.specs.Prelude.{◌≡◌};
+ghost use Rattle.sections.specs.Time.{counted, tick_of, timer_loaded, timer_at, acknowledged};
 
+use std::marker::Model;
 use timing::counts::InternalCount;
 
 /// The prescaler, the count in force, TIMELP (it has elapsed) and TIMERR (it elapsed again before that was seen).
+///
+/// True of every timer: the prescaler is below 64.
 #[derive(Clone, Copy)]
 pub struct Timer {
     pub prescaler: InternalCount,
@@ -13,11 +16,25 @@ pub struct Timer {
     pub timerr: bool,
 }
 
+impl Model for Timer {
+    ghost use Rattle.std.specs.Prelude.{◌≡◌, true};
+    ghost use Rattle.sections.specs.Fields.{TimerFields};
+
+    ghost Value = { TimerFields };
+
+    ghost use Rattle.sections.specs.Time.{sound_timer};
+
+    ghost view = { λ t. t };
+
+    ghost invariant = { λ t. sound_timer t ≡ true };
+
+    ghost inverse = { λ t. t };
+}
+
 impl Timer {
     /// As open leaves it: at the interval, with nothing elapsed.
     pub fn at(interval: u8) -> Timer
-        ensures step { result ≡ timer_at interval }
-        ensures sound { sound_timer result ≡ true }
+        ensures { result ≡ timer_at interval }
     {
         Timer {
             prescaler: InternalCount(0),
@@ -29,8 +46,7 @@ impl Timer {
 
     /// LDIR has fallen: the count is loaded, and the prescaler begins anew.
     pub fn load(&mut self, interval: u8)
-        ensures step { self.new ≡ timer_loaded interval self.old }
-        ensures sound { sound_timer self.new ≡ true }
+        ensures { self.new ≡ timer_loaded interval self.old }
     {
         *self = Timer {
             timelp: self.timelp,
@@ -41,30 +57,19 @@ impl Timer {
 
     /// TIMELP and TIMERR have been seen: both become 0.
     pub fn acknowledge(&mut self)
-        requires sound { sound_timer self.old ≡ true }
-        ensures step { self.new ≡ acknowledged self.old }
-        ensures sound { sound_timer self.new ≡ true }
+        ensures { self.new ≡ acknowledged self.old }
     {
         self.timelp = false;
         self.timerr = false;
     }
 
     /// One internal clock.
+    #[tactic(auto, unfolding(crate::specs::Time::tick_of))]
     pub fn tick(&mut self, interval: u8, tstmd: bool)
-        requires sound { sound_timer self.old ≡ true }
-        ensures step { self.new ≡ tick_of interval tstmd self.old }
-        ensures sound { sound_timer self.new ≡ true }
-    {
-        self.prescale(interval, tstmd);
-    }
-
-    fn prescale(&mut self, interval: u8, tstmd: bool)
-        requires sound { sound_timer self.old ≡ true }
-        ensures step { self.new ≡ ticked interval tstmd self.old }
-        ensures sound { sound_timer self.new ≡ true }
+        ensures { self.new ≡ tick_of interval tstmd self.old }
     {
         let limit = if tstmd { 2 } else { 64 };
-        self.prescaler = InternalCount(self.prescaler.0 + 1);
+        self.prescaler.0 += 1;
         if self.prescaler.0 >= limit {
             self.prescaler = InternalCount(0);
             self.count_down(interval);
@@ -75,12 +80,14 @@ impl Timer {
     fn count_down(&mut self, interval: u8)
         ensures { self.new ≡ counted interval self.old }
     {
-        if self.count > 1 {
-            self.count -= 1;
-        } else if self.count == 1 {
-            self.count = interval;
-            self.timerr = self.timerr || self.timelp;
-            self.timelp = true;
+        match self.count {
+            0 => {}
+            1 => {
+                self.count = interval;
+                self.timerr |= self.timelp;
+                self.timelp = true;
+            }
+            _ => self.count -= 1,
         }
     }
 }

@@ -1,8 +1,9 @@
 // The transmitter: the transmit buffer, the shift register and XOUT.
-ghost use Rattle.std.specs.Prelude.{◌≡◌, ◌<◌, ◌≤◌, true};
-ghost use Rattle.sections.specs.Transmit.{word_of, empty_transmitter, buffer_written, buffer_loaded, reset_transmitter, xsre, send, sent, idle_rules, begun, next_element, sound_transmitter};
+ghost use Rattle.std.specs.Prelude.{◌≡◌, ◌<◌};
+ghost use Rattle.sections.specs.Transmit.{word_of, empty_transmitter, buffer_written, buffer_loaded, reset_transmitter, xsre, send, idle_rules};
 
-use crate::bits::byte_with_bit;
+use crate::bits::with_bit;
+use std::marker::Model;
 use timing::counts::InternalCount;
 use timing::ones::{data_of, parity_bit_of};
 use timing::registers::{Control, Format, StopLength, half_bits_of};
@@ -26,10 +27,13 @@ pub enum Sending {
 }
 
 /// The transmitter. An idle one whose XOUT is space is in a break.
+///
+/// True of every transmitter: no countdown is over 32,768, and at most 9 bits of one character are to come.
 #[derive(Clone, Copy)]
 pub struct Transmitter {
     pub state: Sending,
     pub xout: bool,
+    /// The buffer may be loaded. It is no `Option` round the buffer, which is written bit by bit and keeps its bits.
     pub xbre: bool,
     pub buffer: u8,
 }
@@ -47,11 +51,25 @@ fn word_of(format: Format, character: u8) -> u16
     }
 }
 
+impl Model for Transmitter {
+    ghost use Rattle.std.specs.Prelude.{◌≡◌, true};
+    ghost use Rattle.sections.specs.Fields.{TransmitterFields};
+
+    ghost Value = { TransmitterFields };
+
+    ghost use Rattle.sections.specs.Transmit.{sound_transmitter};
+
+    ghost view = { λ t. t };
+
+    ghost invariant = { λ t. sound_transmitter t ≡ true };
+
+    ghost inverse = { λ t. t };
+}
+
 impl Transmitter {
     /// As open leaves it: nothing to send, and the line at mark.
     pub fn empty() -> Transmitter
-        ensures step { result ≡ empty_transmitter }
-        ensures sound { sound_transmitter result ≡ true }
+        ensures { result ≡ empty_transmitter }
     {
         Transmitter {
             state: Sending::Idle,
@@ -65,19 +83,14 @@ impl Transmitter {
     pub fn xsre(&self) -> bool
         ensures { result ≡ xsre self.now }
     {
-        match self.state {
-            Sending::Idle => true,
-            Sending::Element { .. } | Sending::Stop { .. } => false,
-        }
+        matches!(self.state, Sending::Idle)
     }
 
     /// A write to bit k of the transmit buffer. Bit 7 resets XBRE as it loads.
     pub fn write_bit(&mut self, k: u16, v: bool)
-        requires sound { sound_transmitter self.old ≡ true }
-        ensures step { self.new ≡ buffer_written k v self.old }
-        ensures sound { sound_transmitter self.new ≡ true }
+        ensures { self.new ≡ buffer_written k v self.old }
     {
-        self.buffer = byte_with_bit(self.buffer, k, v);
+        self.buffer = with_bit::<8>(self.buffer as u16, k, v) as u8;
         if k == 7 {
             self.xbre = false;
         }
@@ -85,9 +98,7 @@ impl Transmitter {
 
     /// A whole character into the transmit buffer.
     pub fn load(&mut self, character: u8)
-        requires sound { sound_transmitter self.old ≡ true }
-        ensures step { self.new ≡ buffer_loaded character self.old }
-        ensures sound { sound_transmitter self.new ≡ true }
+        ensures { self.new ≡ buffer_loaded character self.old }
     {
         self.buffer = character;
         self.xbre = false;
@@ -95,8 +106,7 @@ impl Transmitter {
 
     /// A reset: idle with XOUT at mark, XBRE 1; the buffer keeps its bits.
     pub fn reset(&mut self)
-        ensures step { self.new ≡ reset_transmitter self.old }
-        ensures sound { sound_transmitter self.new ≡ true }
+        ensures { self.new ≡ reset_transmitter self.old }
     {
         *self = Transmitter {
             buffer: self.buffer,
@@ -105,103 +115,62 @@ impl Transmitter {
     }
 
     /// One internal clock. `go` tells that RTS and CTS are active.
+    // The control register and a rate are two parameters: a chip has one of the first and two of the second, so a struct of both
+    // would be made anew at each clock.
+    #[tactic(auto, unfolding(crate::specs::Transmit::send))]
     pub fn tick(&mut self, control: u8, rate: u16, brkon: bool, go: bool)
-        requires sound { sound_transmitter self.old ≡ true }
-        ensures step { self.new ≡ send control rate brkon go self.old }
-        ensures sound { sound_transmitter self.new ≡ true }
+        ensures { self.new ≡ send control rate brkon go self.old }
     {
-        self.advance(control, rate, brkon, go);
-    }
-
-    fn advance(&mut self, control: u8, rate: u16, brkon: bool, go: bool)
-        requires sound { sound_transmitter self.old ≡ true }
-        ensures step { self.new ≡ sent self.old.state control rate brkon go self.old }
-        ensures sound { sound_transmitter self.new ≡ true }
-    {
-        match self.state {
-            Sending::Idle => self.apply_idle_rules(control, rate, brkon, go),
+        match &mut self.state {
+            Sending::Element { left, .. } if left.0 > 1 => left.0 -= 1,
+            Sending::Stop { left } if left.0 > 1 => left.0 -= 1,
+            Sending::Element {
+                word,
+                count: 0,
+                stop,
+                ..
+            } => {
+                self.state = Sending::Stop {
+                    left: half_bits_of(rate, stop.half_bits()),
+                };
+                self.xout = true;
+            }
             Sending::Element {
                 left,
                 word,
                 count,
-                stop,
-            } if left.0 > 1 => {
-                self.state = Sending::Element {
-                    left: InternalCount(left.0 - 1),
-                    word,
-                    count,
-                    stop,
-                };
-            }
-            Sending::Element {
-                word,
-                count,
-                stop,
                 ..
-            } => self.begin_element(rate, word, count, stop),
-            Sending::Stop { left } if left.0 > 1 => {
-                self.state = Sending::Stop {
-                    left: InternalCount(left.0 - 1),
-                };
+            } => {
+                self.xout = *word % 2 == 1;
+                *left = half_bits_of(rate, 2);
+                *word /= 2;
+                *count -= 1;
             }
-            Sending::Stop { .. } => self.apply_idle_rules(control, rate, brkon, go),
+            Sending::Idle | Sending::Stop { .. } => {
+                self.apply_idle_rules(control, rate, brkon, go)
+            }
         }
     }
 
-    // The first rule that fits an idle transmitter.
+    // An idle transmitter does what the first rule that fits says: a break, one clock of mark after a break, the start, or mark.
     fn apply_idle_rules(&mut self, control: u8, rate: u16, brkon: bool, go: bool)
-        ensures step { self.new ≡ idle_rules control rate brkon go self.old }
-        ensures sound { sound_transmitter self.new ≡ true }
+        ensures { self.new ≡ idle_rules control rate brkon go self.old }
     {
+        self.state = Sending::Idle;
         if brkon && self.xbre && go {
-            self.state = Sending::Idle;
             self.xout = false;
         } else if !self.xout {
-            self.state = Sending::Idle;
             self.xout = true;
         } else if !self.xbre && go {
-            self.begin(Control::of(control), rate);
-        } else {
-            self.state = Sending::Idle;
-            self.xout = true;
-        }
-    }
-
-    // The start.
-    fn begin(&mut self, control: Control, rate: u16)
-        ensures step { self.new ≡ begun control rate self.old }
-        ensures sound { sound_transmitter self.new ≡ true }
-    {
-        self.state = Sending::Element {
-            left: half_bits_of(rate, 2),
-            word: word_of(control.format, self.buffer),
-            count: control.format.samples(),
-            stop: control.stop,
-        };
-        self.xout = false;
-        self.xbre = true;
-    }
-
-    // A bit of the word, or the stop.
-    fn begin_element(&mut self, rate: u16, word: u16, count: u8, stop: StopLength)
-        requires word { word < 512 }
-        requires count { count ≤ 9 }
-        ensures step { self.new ≡ next_element rate word count stop self.old }
-        ensures sound { sound_transmitter self.new ≡ true }
-    {
-        if count == 0 {
-            self.state = Sending::Stop {
-                left: half_bits_of(rate, stop.half_bits()),
-            };
-            self.xout = true;
-        } else {
+            let control = Control::from(control);
             self.state = Sending::Element {
                 left: half_bits_of(rate, 2),
-                word: word / 2,
-                count: count - 1,
-                stop,
+                word: word_of(control.format, self.buffer),
+                count: control.format.samples(),
+                stop: control.stop,
             };
-            self.xout = word % 2 == 1;
+            self.xout = false;
+            self.xbre = true;
         }
     }
 }

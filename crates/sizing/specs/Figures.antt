@@ -24,6 +24,10 @@ microseconds_at c clocks = (100 * clocks + megahertz c - 1) / megahertz c
 abbrev pub per_minute_at : SystemClock → ℕ → ℕ
 per_minute_at c each = 60 * second c / each
 
+-- what stands behind the point of a number of hundredths
+abbrev pub decimals : ℕ → ℕ
+decimals n = n % 100
+
 -- a number of hundredths with two decimals
 abbrev pub point_two : ℕ → List ℕ
 point_two n = decimal (n / 100) ++ (codes "." ++ (decimal (n / 10 % 10) ++ decimal (n % 10)))

@@ -1,16 +1,16 @@
 // Figures that people read: times, rates and counts at a clock of so many megahertz.
 ghost use Rattle.std.specs.Prelude.{◌≡◌, ◌+◌, ◌*◌, ◌/◌, ◌<◌, ◌≤◌, Some};
 ghost use Rattle.timing.specs.Counts.{q};
-ghost use Rattle.sizing.specs.Figures.{megahertz, rate_at, microseconds_at, per_minute_at, point_two};
+ghost use Rattle.sizing.specs.Figures.{megahertz, rate_at, microseconds_at, per_minute_at, decimals, point_two};
 
 use std::fmt;
 use timing::counts::{Divider, PhiCount};
 
 /// The frequency of φ.
-#[derive(Clone, Copy)]
+#[derive(Clone, Copy, Debug, PartialEq, Eq)]
 pub enum SystemClock {
-    Mhz3,
-    Mhz4,
+    Mhz3 = 3,
+    Mhz4 = 4,
 }
 
 impl SystemClock {
@@ -28,25 +28,29 @@ impl SystemClock {
     pub fn megahertz(self) -> u32
         ensures { result ≡ megahertz self }
     {
-        match self {
-            SystemClock::Mhz3 => 3,
-            SystemClock::Mhz4 => 4,
-        }
+        self as u32
     }
 }
 
 /// A figure in hundredths, shown with two decimals.
-#[derive(Clone, Copy)]
+#[derive(Clone, Copy, Debug, PartialEq, Eq)]
 pub struct Hundredths(pub u64);
+
+impl Hundredths {
+    // What stands behind the point.
+    fn decimals(self) -> u64
+        ensures { result ≡ decimals self.0 }
+    {
+        self.0 % 100
+    }
+}
 
 impl fmt::Display for Hundredths {
     ghost output = { λ x. Some (point_two x.0) };
 
     fn fmt<W: fmt::Write>(&self, f: &mut fmt::Formatter<W>) -> fmt::Result {
-        let whole = self.0 / 100;
-        let tenths = self.0 / 10 % 10;
-        let rest = self.0 % 10;
-        write!(f, "{whole}.{tenths}{rest}")
+        let decimals = self.decimals();
+        write!(f, "{}.{decimals:02}", self.0 / 100)
     }
 }
 

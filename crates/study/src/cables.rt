@@ -1,10 +1,11 @@
 // The cables of the study. Each run has a new one.
 ghost use Rattle.std.specs.Prelude.{◌<◌, ◌≤◌};
 
+use crate::request::RequestFault;
 use cable::delaying::Delaying;
 use cable::disturbed::Disturbed;
 use cable::straight::Straight;
-use faults::Fault;
+use faults::{Cause, Fault};
 use std::fmt;
 use totes::case::Case;
 use totes::noise::{INVERTED_STEPS, fill_inverted_steps};
@@ -29,28 +30,22 @@ pub(crate) enum CableKind {
 
 impl fmt::Display for CableKind {
     fn fmt<W: fmt::Write>(&self, f: &mut fmt::Formatter<W>) -> fmt::Result {
-        match *self {
+        match self {
             CableKind::Straight => write!(f, "straight cable"),
             CableKind::Delay(pairs) => write!(f, "cable with a delay of {pairs}"),
-            CableKind::Noise(every) => {
-                let n = every.n;
-                write!(f, "cable that inverts every {n}th step")
-            }
+            CableKind::Noise(every) => write!(f, "cable that inverts every {}th step", every.n),
         }
     }
 }
 
-fn run_delayed(case: Case, interval: u32, pairs: u32) -> Result<Tally, Fault>
-    requires { interval ≤ 80000000 }
-{
+fn run_delayed(case: Case, interval: u32, pairs: u32) -> Result<Tally, Fault> {
     let mut cable = Delaying::new();
     cable.set_lengths(pairs, pairs)?;
     run(cable, case, interval)
 }
 
-fn run_disturbed(case: Case, interval: u32, every: EveryNth) -> Result<Tally, Fault>
-    requires { interval ≤ 80000000 }
-{
+fn run_disturbed(case: Case, interval: u32, every: EveryNth) -> Result<Tally, Fault> {
+    // the list is lent to the cable, which takes no heap
     let mut steps = [0u32; INVERTED_STEPS];
     fill_inverted_steps(&mut steps, every.n);
     let mut cable = Disturbed::new();
@@ -59,10 +54,21 @@ fn run_disturbed(case: Case, interval: u32, every: EveryNth) -> Result<Tally, Fa
 }
 
 impl CableKind {
+    /// The cable of a name and a number.
+    pub(crate) fn named(name: &[u8], number: u32) -> Result<CableKind, RequestFault> {
+        match (name, number) {
+            (b"straight", 0) => Ok(CableKind::Straight),
+            (b"delay", 1..=64) => Ok(CableKind::Delay(number)),
+            (b"noise", 1..=1000000) => Ok(CableKind::Noise(EveryNth { n: number })),
+            (b"straight" | b"delay" | b"noise", _) => Err(RequestFault::Refused(Fault::from(
+                Cause::OutOfRange,
+            ))),
+            _ => Err(RequestFault::BadForm),
+        }
+    }
+
     /// One run of the case over this cable.
-    pub(crate) fn run(self, case: Case, interval: u32) -> Result<Tally, Fault>
-        requires { interval ≤ 80000000 }
-    {
+    pub(crate) fn run(self, case: Case, interval: u32) -> Result<Tally, Fault> {
         match self {
             CableKind::Straight => run(Straight, case, interval),
             CableKind::Delay(pairs) => run_delayed(case, interval, pairs),

@@ -4,12 +4,12 @@ ghost use Rattle.study.specs.Findings.{noted};
 
 use crate::request::Request;
 use std::io;
-use totes::outcome::{Loss, LossKind, Tally};
+use totes::outcome::{Loss, Tally};
 
 // The rows of the table, which begins with the longest interval.
 const ROWS: u32 = 17;
 
-fn print_heading(rt: &HostRuntime, request: Request) -> io::Result<()> {
+fn print_heading(rt: &impl Print, request: Request) -> io::Result<()> {
     let Request { case, cable } = request;
     let control = case.control;
     let rate = case.rate;
@@ -28,39 +28,19 @@ fn print_heading(rt: &HostRuntime, request: Request) -> io::Result<()> {
     )
 }
 
-fn print_row(rt: &HostRuntime, interval: u32, tally: Tally) -> io::Result<()> {
-    let whole = tally.whole;
-    let lost = tally.lost;
-    let damaged = tally.damaged;
-    let moments = tally.moments;
+fn print_row(rt: &impl Print, interval: u32, tally: Tally) -> io::Result<()> {
+    let Tally {
+        whole,
+        lost,
+        damaged,
+        moments,
+        ..
+    } = tally;
     println!(rt; "{interval:>14}{whole:>10}{lost:>10}{damaged:>10}{moments:>12}")
 }
 
-fn kind_text(kind: LossKind) -> &'static str {
-    match kind {
-        LossKind::Overwritten => "was overwritten",
-        LossKind::Missed =>
-            "was missed: bit 18 was written on the clock of its stop sample, as event 1",
-        LossKind::NeverRead => "was never read",
-    }
-}
-
-fn print_loss(rt: &HostRuntime, interval: u32, loss: Loss) -> io::Result<()> {
-    let clock = loss.clock;
-    let character = loss.position.character;
-    let label = loss.position.label;
-    let kind = kind_text(loss.kind);
-    let rbrl = loss.flags.rbrl as u8;
-    let rfer = loss.flags.rfer as u8;
-    let rover = loss.flags.rover as u8;
-    let rper = loss.flags.rper as u8;
-    println!(rt;
-        "  first loss, at interval {interval}: clock {clock}, character {character} of label {label} {kind}; RBRL {rbrl}, RFER {rfer}, ROVER {rover}, RPER {rper}"
-    )
-}
-
 // What the runs so far have shown.
-#[derive(Clone, Copy)]
+#[derive(Clone, Copy, Default)]
 struct Findings {
     // The interval of the last row before the first in which a label was lost.
     shortest: Option<u32>,
@@ -82,7 +62,7 @@ impl Findings {
         }
     }
 
-    fn print(&self, rt: &HostRuntime) -> io::Result<()> {
+    fn print(&self, rt: &impl Print) -> io::Result<()> {
         let Some((interval, loss)) = self.first_loss else {
             return println!(rt;
                 "  no label is lost: the line is busy all the time before the board is"
@@ -92,17 +72,14 @@ impl Findings {
             Some(shortest) => println!(rt; "  shortest interval with none lost: {shortest}")?,
             None => println!(rt; "  labels are lost at every interval")?,
         }
-        print_loss(rt, interval, loss)
+        println!(rt; "  first loss, at interval {interval}: {loss}")
     }
 }
 
 /// Runs a case at each interval of its table, and prints the rows and what they show.
-pub(crate) fn print_study(rt: &HostRuntime, number: u64, request: Request) -> io::Result<()> {
+pub(crate) fn print_study(rt: &impl Print, number: u64, request: Request) -> io::Result<()> {
     print_heading(rt, request)?;
-    let mut findings = Findings {
-        shortest: None,
-        first_loss: None,
-    };
+    let mut findings = Findings::default();
     for row in 0..ROWS {
         let interval = request.case.interval(row);
         match request.cable.run(request.case, interval) {

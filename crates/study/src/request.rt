@@ -1,27 +1,18 @@
 // One line of input: a case and the cable that it is studied over.
-use crate::cables::{CableKind, EveryNth};
-use faults::{Cause, Fault};
-use std::fmt;
+use crate::cables::CableKind;
+use console::numbers::{NumberError, read_number};
+use faults::Fault;
+use std::str;
+use thiserror::Error;
 use totes::case::Case;
 
 /// What is wrong with a line.
-#[derive(Clone, Copy)]
+#[derive(Debug, Drop, Error)]
 pub(crate) enum RequestFault {
+    #[error("the case has seven fields")]
     BadForm,
-    Refused(Fault),
-}
-
-impl fmt::Display for RequestFault {
-    fn fmt<W: fmt::Write>(&self, f: &mut fmt::Formatter<W>) -> fmt::Result {
-        match *self {
-            RequestFault::BadForm => write!(f, "the case has seven fields"),
-            RequestFault::Refused(fault) => write!(f, "{fault}"),
-        }
-    }
-}
-
-fn out_of_range() -> RequestFault {
-    RequestFault::Refused(Fault::unplaced(Cause::OutOfRange))
+    #[error(transparent)]
+    Refused(#[from] Fault),
 }
 
 /// A case and its cable, with all numbers in range.
@@ -31,81 +22,30 @@ pub(crate) struct Request {
     pub(crate) cable: CableKind,
 }
 
-// The bytes before the first space, and those behind it.
-fn split_field(bytes: &[u8]) -> Result<(&[u8], &[u8]), RequestFault> {
-    for i in 0..bytes.len() {
-        if bytes[i] == b' ' {
-            return Ok((&bytes[0..i], &bytes[i + 1..]));
-        }
-    }
-    Err(RequestFault::BadForm)
-}
-
 // Decimal digits. A number that is too large for its type is outside every range, and so is the largest of the type.
-fn read_decimal(digits: &[u8]) -> Result<u32, RequestFault> {
-    if digits.is_empty() {
-        return Err(RequestFault::BadForm);
-    }
-    let mut value = 0u32;
-    for digit in digits {
-        match *digit {
-            b'0'..=b'9' => value = value
-                .saturating_mul(10)
-                .saturating_add((*digit - b'0') as u32),
-            _ => return Err(RequestFault::BadForm),
-        }
-    }
-    Ok(value)
-}
-
-// A number, and what follows the space behind it.
-fn read_field(bytes: &[u8]) -> Result<(u32, &[u8]), RequestFault> {
-    let (digits, rest) = split_field(bytes)?;
-    let number = read_decimal(digits)?;
-    Ok((number, rest))
-}
-
-// The cables by their names.
-#[derive(Clone, Copy)]
-enum CableName {
-    Straight,
-    Delay,
-    Noise,
-}
-
-fn read_name(field: &[u8]) -> Result<CableName, RequestFault> {
-    match std::str::from_utf8(field) {
-        Ok("straight") => Ok(CableName::Straight),
-        Ok("delay") => Ok(CableName::Delay),
-        Ok("noise") => Ok(CableName::Noise),
-        _ => Err(RequestFault::BadForm),
-    }
-}
-
-fn choose_cable(name: CableName, number: u32) -> Result<CableKind, RequestFault> {
-    match (name, number) {
-        (CableName::Straight, 0) => Ok(CableKind::Straight),
-        (CableName::Delay, 1..=64) => Ok(CableKind::Delay(number)),
-        (CableName::Noise, 1..=1000000) => Ok(CableKind::Noise(EveryNth { n: number })),
-        _ => Err(out_of_range()),
-    }
+fn read_field(field: Option<&[u8]>) -> Result<u32, RequestFault> {
+    let digits = field
+        .and_then(|bytes| str::from_utf8(bytes).ok())
+        .ok_or(RequestFault::BadForm)?;
+    read_number(digits, 10).or_else(|error| match error {
+        NumberError::TooLarge => Ok(u32::MAX),
+        NumberError::NotDigits => Err(RequestFault::BadForm),
+    })
 }
 
 impl Request {
     /// What a line of input asks for. The form of all seven fields is looked at before any range.
     pub(crate) fn read(line: &[u8]) -> Result<Request, RequestFault> {
-        let (control, line) = read_field(line)?;
-        let (rate, line) = read_field(line)?;
-        let (name, line) = split_field(line)?;
-        let name = read_name(name)?;
-        let (number, line) = read_field(line)?;
-        let (length, line) = read_field(line)?;
-        let (look, line) = read_field(line)?;
-        let work = read_decimal(line)?;
-        let cable = choose_cable(name, number)?;
-        match Case::new(control, rate, length, look, work) {
-            Ok(case) => Ok(Request { case, cable }),
-            Err(fault) => Err(RequestFault::Refused(fault)),
-        }
+        let mut fields = line.splitn(7, |byte| *byte == b' ');
+        let control = read_field(fields.next())?;
+        let rate = read_field(fields.next())?;
+        let name = fields.next().ok_or(RequestFault::BadForm)?;
+        let number = read_field(fields.next())?;
+        let length = read_field(fields.next())?;
+        let look = read_field(fields.next())?;
+        let work = read_field(fields.next())?;
+        let cable = CableKind::named(name, number)?;
+        let case = Case::new(control, rate, length, look, work)?;
+        Ok(Request { case, cable })
     }
 }

@@ -12,7 +12,7 @@ pub fn half_bit_count(rate: u32) -> Result<InternalCount, Fault>
     ensures { result ≡ half_bit_answer rate }
 {
     if rate > 2047 {
-        return Err(Fault::unplaced(Cause::OutOfRange));
+        return Err(Fault::from(Cause::OutOfRange));
     }
     Ok(half_bit_of(rate as u16))
 }
@@ -42,7 +42,7 @@ pub fn deadline(control: u32, rate: u32, delay: u32) -> Result<PhiCount, Fault>
     ensures bound { IfOk result (λ clocks. clocks.0 ≤ 753671) }
 {
     if control > 255 || rate > 2047 || delay > 65535 {
-        return Err(Fault::unplaced(Cause::OutOfRange));
+        return Err(Fault::from(Cause::OutOfRange));
     }
-    Ok(deadline_of(Control::of(control as u8), rate as u16, delay as u16))
+    Ok(deadline_of(Control::from(control as u8), rate as u16, delay as u16))
 }

@@ -20,16 +20,11 @@ pub fn odd_ones(byte: u8) -> bool
 pub fn data_of(length: CharacterLength, bits: u16) -> u8
     ensures { result ≡ bits % 2 ^ width length }
 {
-    match length {
-        CharacterLength::Five => (bits % 32) as u8,
-        CharacterLength::Six => (bits % 64) as u8,
-        CharacterLength::Seven => (bits % 128) as u8,
-        CharacterLength::Eight => (bits % 256) as u8,
-    }
+    (bits % (1 << length.bits())) as u8
 }
 
-// The parity bit for data whose ones are odd in number or not.
-fn parity_for(parity: Parity, odd: bool) -> bool
+/// The parity bit for data whose ones are odd in number or not; false where there is none.
+pub fn parity_for(parity: Parity, odd: bool) -> bool
     ensures { result ≡ parity_by parity odd }
 {
     match parity {

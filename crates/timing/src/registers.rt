@@ -5,12 +5,12 @@ ghost use Rattle.timing.specs.Registers.{bit, width, parity_bits, half_bits, sam
 use crate::counts::{Divider, InternalCount};
 
 /// The data bits of a character, L.
-#[derive(Clone, Copy)]
+#[derive(Clone, Copy, Debug, PartialEq, Eq)]
 pub enum CharacterLength {
-    Five,
-    Six,
-    Seven,
-    Eight,
+    Five = 5,
+    Six = 6,
+    Seven = 7,
+    Eight = 8,
 }
 
 impl CharacterLength {
@@ -18,17 +18,12 @@ impl CharacterLength {
     pub fn bits(self) -> u8
         ensures { result ≡ width self }
     {
-        match self {
-            CharacterLength::Five => 5,
-            CharacterLength::Six => 6,
-            CharacterLength::Seven => 7,
-            CharacterLength::Eight => 8,
-        }
+        self as u8
     }
 }
 
 /// Whether a parity bit follows the data bits, and which one.
-#[derive(Clone, Copy)]
+#[derive(Clone, Copy, Debug, PartialEq, Eq)]
 pub enum Parity {
     Disabled,
     Even,
@@ -40,19 +35,16 @@ impl Parity {
     pub fn bits(self) -> u8
         ensures { result ≡ parity_bits self }
     {
-        match self {
-            Parity::Disabled => 0,
-            Parity::Even | Parity::Odd => 1,
-        }
+        u8::from(self != Parity::Disabled)
     }
 }
 
-/// How long a transmitter holds the stop.
-#[derive(Clone, Copy)]
+/// How long a transmitter holds the stop, in half-bits.
+#[derive(Clone, Copy, Debug, PartialEq, Eq)]
 pub enum StopLength {
-    One,
-    OneAndHalf,
-    Two,
+    One = 2,
+    OneAndHalf = 3,
+    Two = 4,
 }
 
 impl StopLength {
@@ -61,16 +53,12 @@ impl StopLength {
         ensures value { result ≡ half_bits self }
         ensures bound { result ≤ 4 }
     {
-        match self {
-            StopLength::One => 2,
-            StopLength::OneAndHalf => 3,
-            StopLength::Two => 4,
-        }
+        self as u8
     }
 }
 
 /// What a character is made of between its start and its stop.
-#[derive(Clone, Copy)]
+#[derive(Clone, Copy, Debug, PartialEq, Eq)]
 pub struct Format {
     pub length: CharacterLength,
     pub parity: Parity,
@@ -87,15 +75,15 @@ impl Format {
 }
 
 /// The control register, decoded.
-#[derive(Clone, Copy)]
+#[derive(Clone, Copy, Debug, PartialEq, Eq)]
 pub struct Control {
     pub format: Format,
     pub stop: StopLength,
     pub divider: Divider,
 }
 
-// Bit k of a register.
-fn bit_of(register: u16, k: u32) -> bool
+/// Bit k of a register.
+pub fn bit_of(register: u16, k: u32) -> bool
     requires { k < 16 }
     ensures { result ≡ bit k register }
 {
@@ -147,30 +135,27 @@ fn select_divider(register: u8) -> Divider
     }
 }
 
-fn decode(register: u8) -> Control
-    ensures { result ≡ decoded register }
-{
-    Control {
-        format: Format {
-            length: select_length(register),
-            parity: select_parity(register),
-        },
-        stop: select_stop(register),
-        divider: select_divider(register),
+/// What a control register holds. Bit 2 is not used.
+impl From<u8> for Control {
+    ghost from_gives = { λ register control. control ≡ control_of register };
+
+    #[tactic(auto, unfolding(crate::specs::Registers::control_of))]
+    fn from(register: u8) -> Control {
+        Control {
+            format: Format {
+                length: select_length(register),
+                parity: select_parity(register),
+            },
+            stop: select_stop(register),
+            divider: select_divider(register),
+        }
     }
 }
 
-impl Control {
-    /// What a control register holds. Bit 2 is not used.
-    pub fn of(register: u8) -> Control
-        ensures { result ≡ control_of register }
-    {
-        decode(register)
-    }
-}
-
-fn count_half_bit(register: u16) -> InternalCount
-    ensures value { result.0 ≡ half_count_by_bits register }
+/// H, the internal clocks of half a bit at a rate register's low eleven bits.
+#[tactic(auto, unfolding(crate::specs::Registers::half_count))]
+pub fn half_bit_of(register: u16) -> InternalCount
+    ensures value { result.0 ≡ half_count register }
     ensures some { 0 < result.0 }
     ensures bound { result.0 ≤ 8192 }
 {
@@ -183,31 +168,11 @@ fn count_half_bit(register: u16) -> InternalCount
     }
 }
 
-/// H, the internal clocks of half a bit at a rate register's low eleven bits.
-pub fn half_bit_of(register: u16) -> InternalCount
-    ensures value { result.0 ≡ half_count register }
-    ensures some { 0 < result.0 }
-    ensures bound { result.0 ≤ 8192 }
-{
-    count_half_bit(register)
-}
-
-// n times a half-bit.
-fn repeat_half_bit(half: InternalCount, n: u8) -> InternalCount
-    requires some { 0 < half.0 }
-    requires short { half.0 ≤ 8192 }
-    ensures value { result.0 ≡ half.0 * n }
-    ensures low { n ≤ result.0 }
-    ensures high { result.0 ≤ 8192 * n }
-{
-    InternalCount(half.0 * n as u32)
-}
-
 /// The internal clocks of n half-bits at a rate register.
 pub fn half_bits_of(register: u16, n: u8) -> InternalCount
     ensures value { result.0 ≡ half_count register * n }
     ensures low { n ≤ result.0 }
     ensures high { result.0 ≤ 8192 * n }
 {
-    repeat_half_bit(half_bit_of(register), n)
+    InternalCount(half_bit_of(register).0 * n as u32)
 }

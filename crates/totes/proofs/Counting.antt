@@ -1,5 +1,6 @@
 -- Counting labels. Assumes nothing.
-use Rattle.std.proofs.Common.{◌≡◌, ℕ, zero, suc, ◌+◌, ◌<◌, true, eqb, ltb, List, [], ◌∷◌, length, get_or, set, is_some, Some, None, Option, sym, refl, ap, ◌∙◌, arith}
+use Rattle.std.proofs.Common.{◌≡◌, ℕ, zero, suc, ◌+◌, ◌<◌, ◌≤◌, true, cond, ◌==◌, count_by, eqb, ltb, List, [], ◌∷◌, length, get_or, set, is_some, Some, None, Option, sym, refl, ap, ◌∙◌, arith}
+use Rattle.std.proofs.lemmas.List.Recursion.{is_count_by}
 use Rattle.std.proofs.lemmas.Bool.{lt-ltb, le-ltb, eqb-true}
 use Rattle.totes.specs.declared.outcome.Loss.{Loss}
 use Rattle.totes.specs.declared.outcome.Fate.{Fate}
@@ -10,6 +11,20 @@ one_of_three : (f : Fate) → one_if Whole f + one_if Lost f + one_if Damaged f 
 one_of_three Whole = refl
 one_of_three Damaged = refl
 one_of_three Lost = refl
+
+at_most_one : (f g : Fate) → one_if f g ≤ 1
+at_most_one Whole g = omega (arith, one_of_three g)
+at_most_one Damaged g = omega (arith, one_of_three g)
+at_most_one Lost g = omega (arith, one_of_three g)
+
+added : (k n : ℕ) → k ≤ 1 → k + n ≡ cond (k == 1) (1 + n) n
+added zero n h = omega arith
+added (suc zero) n h = refl
+added (suc (suc k)) n h = absurd (omega arith)
+
+-- counting a fate is counting the labels that have it
+pub count_fate_is : (f : Fate) (gs : List Fate) → count_fate f gs ≡ count_by (λ g. one_if f g == 1) gs
+count_fate_is f gs = is_count_by (count_fate f) (λ g. one_if f g == 1) refl (λ g hs. added (one_if f g) (count_fate f hs) (at_most_one f g)) gs
 
 -- each label has one of the three fates
 pub each_once : (fs : List Fate) → count_fate Whole fs + count_fate Lost fs + count_fate Damaged fs ≡ length fs

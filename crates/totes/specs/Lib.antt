@@ -3,3 +3,4 @@ pub mod Noise
 pub mod Outcome
 pub mod Scanning
 pub mod Times
+pub mod Words

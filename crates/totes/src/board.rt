@@ -1,15 +1,18 @@
 // The merge board, at end B, and what is kept of the labels that come to it.
-ghost use Rattle.std.specs.Prelude.{◌≡◌, ◌+◌, ◌≤◌, is_some, nat_lt};
+ghost use Rattle.std.specs.Prelude.{◌≡◌, ◌+◌, is_some, IfOk, nat_lt};
 ghost use Rattle.totes.specs.Outcome.{lost_by_store, busy_after};
 
 use crate::case::Case;
-use crate::inputs::{RBRL, RFER, ROVER, RPER, RSBD, input, is_set};
+use crate::inputs::{RBRL, RFER, ROVER, RPER, RSBD, input};
 use crate::log::Log;
+use crate::moment::Moment;
 use crate::outcome::{Flags, Loss, LossKind, Tally, is_damaged};
-use crate::position::Position;
+use crate::position::{Position, TOTES};
 use bench::Bench;
 use cable::interface::Cable;
 use faults::{End, Fault};
+use std::mem;
+use timing::registers::bit_of;
 
 /// Characters are stored in the order in which they were loaded, so it is enough to know which one is stored next, and whether the one
 /// that was stored last is still unread.
@@ -27,12 +30,12 @@ pub(crate) struct Board {
 
 // The receiver's flags at end B.
 fn flags<C: Cable>(bench: &Bench<C>) -> Result<Flags, Fault> {
-    let bits = bench.get(End::B.number(), RPER, 12)?;
+    let bits = bench.get(u32::from(End::B), RPER, 12)?;
     Ok(Flags {
-        rper: is_set(bits, 0),
-        rover: is_set(bits, ROVER - RPER),
-        rfer: is_set(bits, RFER - RPER),
-        rbrl: is_set(bits, RBRL - RPER),
+        rper: bit_of(bits, 0),
+        rover: bit_of(bits, ROVER - RPER),
+        rfer: bit_of(bits, RFER - RPER),
+        rbrl: bit_of(bits, RBRL - RPER),
     })
 }
 
@@ -52,15 +55,14 @@ fn lost_by_store(
     }
 }
 
-// The last moment before which the board is at work, once it has read a character before moment t.
-fn busy_after(case: Case, position: Position, t: u32, busy_until: u32) -> u32
-    requires { t ≤ 2000000000 }
-    ensures { result ≡ busy_after case.length case.work position t busy_until }
+// The last moment before which the board is at work, once it has read a character before a moment.
+fn busy_after(case: Case, position: Position, moment: Moment, busy_until: u32) -> u32
+    ensures { result ≡ busy_after case.length case.work position moment.number busy_until }
 {
     if position.character < case.length - 1 {
         busy_until
     } else {
-        t + case.work
+        moment.number + case.work
     }
 }
 
@@ -92,35 +94,31 @@ impl Board {
         Ok(())
     }
 
-    // The character that waited was read before moment t. Its code is its number in the label, below 32, so that no character is too
+    // The character that waited was read before a moment. Its code is its number in the label, below 32, so that no character is too
     // short for it. After the last one of a label the board goes to work.
-    fn read(&mut self, position: Position, bits: u16, t: u32)
-        requires { t ≤ 2000000000 }
-    {
-        let code = bits as u32 % 256;
-        if is_damaged(
-            position.character,
-            code,
-            is_set(bits, RPER),
-            is_set(bits, RFER),
-        ) {
+    fn read(&mut self, position: Position, bits: u16, moment: Moment) {
+        let code = u32::from(bits % 256);
+        let rper = bit_of(bits, RPER);
+        let rfer = bit_of(bits, RFER);
+        if is_damaged(position.character, code, rper, rfer) {
             self.log.damage(position.label);
         }
-        self.busy_until = busy_after(self.case, position, t, self.busy_until);
+        self.busy_until = busy_after(self.case, position, moment, self.busy_until);
     }
 
-    /// Before moment t: if the board looks and finds a character, it reads it. Tells whether it does, and so acknowledges it in moment t.
-    pub(crate) fn look<C: Cable>(&mut self, bench: &Bench<C>, t: u32) -> Result<bool, Fault>
-        requires { t ≤ 2000000000 }
-    {
-        if !self.case.looks_before(t, self.busy_until) || !input(bench, End::B, RBRL)? {
+    /// Before a moment: if the board looks and finds a character, it reads it. Tells whether it does, and so acknowledges it in that moment.
+    pub(crate) fn look<C: Cable>(
+        &mut self,
+        bench: &Bench<C>,
+        moment: Moment,
+    ) -> Result<bool, Fault> {
+        if !self.case.looks_before(moment, self.busy_until) || !input(bench, End::B, RBRL)? {
             return Ok(false);
         }
-        let bits = bench.get(End::B.number(), 0, 13)?;
-        if let Some(position) = self.unread {
-            self.read(position, bits, t);
+        let bits = bench.get(u32::from(End::B), 0, 13)?;
+        if let Some(position) = self.unread.take() {
+            self.read(position, bits, moment);
         }
-        self.unread = None;
         Ok(true)
     }
 
@@ -128,7 +126,7 @@ impl Board {
     fn store<C: Cable>(&mut self, bench: &Bench<C>, acknowledged: bool) -> Result<(), Fault> {
         let stored = self.next;
         let lost = lost_by_store(self.unread, stored, acknowledged);
-        self.next = stored.next(self.case.length);
+        self.next = stored.next(self.case);
         self.unread = if acknowledged { None } else { Some(stored) };
         if let Some((position, kind)) = lost {
             self.lose(bench, position, kind)?;
@@ -142,37 +140,33 @@ impl Board {
         bench: &Bench<C>,
         acknowledged: bool,
     ) -> Result<(), Fault> {
-        let before = self.rsbd;
-        self.rsbd = input(bench, End::B, RSBD)?;
-        if before && !self.rsbd {
+        let rsbd = input(bench, End::B, RSBD)?;
+        let before = mem::replace(&mut self.rsbd, rsbd);
+        if before && !rsbd {
             self.store(bench, acknowledged)?;
         }
         Ok(())
     }
 
-    /// After the last moment: what was not read by now is lost, be it in the receive buffer or not even stored.
-    pub(crate) fn close<C: Cable>(&mut self, bench: &Bench<C>) -> Result<(), Fault> {
+    /// After the last of so many moments: what was not read by now is lost, be it in the receive buffer or not even stored. Tells what came
+    /// of all labels.
+    pub(crate) fn close<C: Cable>(mut self, bench: &Bench<C>, moments: u32) -> Result<Tally, Fault>
+        ensures moments { IfOk result (λ tally. tally.moments ≡ moments) }
+        ensures labels { IfOk result (λ tally. tally.whole + tally.lost + tally.damaged ≡ 20) }
+        ensures told { IfOk result (λ tally. is_some tally.first_loss ≡ nat_lt 0 tally.lost) }
+    {
         if let Some(position) = self.unread {
             self.lose(bench, position, LossKind::NeverRead)?;
         }
         let next = self.next;
         self.lose(bench, next, LossKind::NeverRead)?;
-        for label in next.label..20 {
+        for label in next.label..TOTES {
             let position = Position {
                 label,
                 character: 0,
             };
             self.lose(bench, position, LossKind::NeverRead)?;
         }
-        Ok(())
-    }
-
-    /// Each label is counted once, and the first loss is there exactly if a label is lost.
-    pub(crate) fn tally(&self, moments: u32) -> Tally
-        ensures moments { result.moments ≡ moments }
-        ensures labels { result.whole + result.lost + result.damaged ≡ 20 }
-        ensures told { is_some result.first_loss ≡ nat_lt 0 result.lost }
-    {
-        self.log.tally(moments)
+        Ok(self.log.tally(moments))
     }
 }

@@ -1,9 +1,7 @@
 // Input bits of an end.
-ghost use Rattle.std.specs.Prelude.{◌≡◌, ◌<◌};
-ghost use Rattle.timing.specs.Registers.{bit};
+ghost use Rattle.std.specs.Prelude.{◌≡◌};
 ghost use Rattle.faults.specs.Faults.{end_number};
 ghost use Rattle.pair.specs.Calls.{get_reply};
-ghost use Rattle.bench.specs.View.{bench_of};
 ghost use Rattle.totes.specs.Bits.{is_one};
 
 use bench::Bench;
@@ -22,18 +20,9 @@ pub(crate) const RBRL: u32 = 21;
 
 pub(crate) const XBRE: u32 = 22;
 
-/// Bit k of a number.
-pub(crate) fn is_set(bits: u16, k: u32) -> bool
-    requires { k < 16 }
-    ensures { result ≡ bit k bits }
-{
-    (bits >> k) % 2 == 1
-}
-
 /// One input bit of an end.
 pub(crate) fn input<C: Cable>(bench: &Bench<C>, end: End, address: u32) -> Result<bool, Fault>
-    ensures { result ≡ is_one (get_reply (end_number end) address 1 (bench_of C.meaning bench.now)) }
+    ensures { result ≡ is_one (get_reply (end_number end) address 1 bench.now.meaning) }
 {
-    let bits = bench.get(end.number(), address, 1)?;
-    Ok(bits == 1)
+    Ok(bench.get(u32::from(end), address, 1)? == 1)
 }

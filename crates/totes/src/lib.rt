@@ -6,6 +6,7 @@ mod board;
 pub mod case;
 mod inputs;
 mod log;
+mod moment;
 pub mod noise;
 pub mod outcome;
 pub mod position;

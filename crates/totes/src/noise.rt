@@ -22,7 +22,7 @@ pub fn fill_inverted_steps(steps: &mut [u32], n: u32)
     requires bound { n ≤ 1000000 }
     ensures { steps.new ≡ inverted_steps n (length steps.old) }
 {
-    for i in 0..steps.len() {
-        steps[i] = inverted_step(i, n);
+    for (i, step) in steps.iter_mut().enumerate() {
+        *step = inverted_step(i, n);
     }
 }

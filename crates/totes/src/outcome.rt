@@ -1,11 +1,13 @@
 // What came of the characters and labels of a run.
-ghost use Rattle.std.specs.Prelude.{◌≡◌, ◌≤◌};
-ghost use Rattle.totes.specs.Outcome.{damaged, is_damaged, one_if, count_fate};
+ghost use Rattle.std.specs.Prelude.{◌≡◌, Some};
+ghost use Rattle.totes.specs.Outcome.{damaged, is_damaged, count_fate};
+ghost use Rattle.totes.specs.Words.{kind_text, flags_text, loss_text};
 
 use crate::position::Position;
+use std::fmt;
 
 /// What came of a label: it is lost if one of its characters was, else damaged if one of them was, else whole.
-#[derive(Clone, Copy)]
+#[derive(Clone, Copy, Debug, PartialEq, Eq)]
 pub enum Fate {
     Whole,
     Damaged,
@@ -23,28 +25,12 @@ impl Fate {
         }
     }
 
-    // 1 for a label that has this fate, else 0.
-    fn one_if(self, label: Fate) -> usize
-        ensures value { result ≡ one_if self label }
-        ensures bound { result ≤ 1 }
-    {
-        match (self, label) {
-            (Fate::Whole, Fate::Whole) => 1,
-            (Fate::Damaged, Fate::Damaged) => 1,
-            (Fate::Lost, Fate::Lost) => 1,
-            _ => 0,
-        }
-    }
-
     /// How many of the labels have this fate.
+    #[tactic(auto, using(crate::proofs::Counting::count_fate_is))]
     pub(crate) fn count(self, labels: &[Fate]) -> usize
         ensures { result ≡ count_fate self labels.now }
     {
-        let mut n = 0;
-        for i in 0..labels.len() {
-            n += self.one_if(labels[i]);
-        }
-        n
+        labels.iter().filter(|fate| **fate == self).count()
     }
 }
 
@@ -56,7 +42,7 @@ pub(crate) fn is_damaged(sent: u32, read: u32, rper: bool, rfer: bool) -> bool
 }
 
 /// How a character was lost.
-#[derive(Clone, Copy)]
+#[derive(Clone, Copy, Debug, PartialEq, Eq)]
 pub enum LossKind {
     /// Another was stored before the board had read it.
     Overwritten,
@@ -66,8 +52,21 @@ pub enum LossKind {
     NeverRead,
 }
 
+impl fmt::Display for LossKind {
+    ghost output = { λ kind. Some (kind_text kind) };
+
+    fn fmt<W: fmt::Write>(&self, f: &mut fmt::Formatter<W>) -> fmt::Result {
+        f.write_str(match self {
+            LossKind::Overwritten => "was overwritten",
+            LossKind::Missed =>
+                "was missed: bit 18 was written on the clock of its stop sample, as event 1",
+            LossKind::NeverRead => "was never read",
+        })
+    }
+}
+
 /// The receiver's flags at end B.
-#[derive(Clone, Copy)]
+#[derive(Clone, Copy, Debug, PartialEq, Eq)]
 pub struct Flags {
     pub rbrl: bool,
     pub rfer: bool,
@@ -75,13 +74,36 @@ pub struct Flags {
     pub rper: bool,
 }
 
+impl fmt::Display for Flags {
+    ghost output = { λ flags. Some (flags_text flags) };
+
+    fn fmt<W: fmt::Write>(&self, f: &mut fmt::Formatter<W>) -> fmt::Result {
+        let [rbrl, rfer, rover, rper] = [self.rbrl, self.rfer, self.rover, self.rper].map(u8::from);
+        write!(f, "RBRL {rbrl}, RFER {rfer}, ROVER {rover}, RPER {rper}")
+    }
+}
+
 /// A loss: the character, how it was lost, and the clock and the flags that the moment left in which it was lost.
-#[derive(Clone, Copy)]
+#[derive(Clone, Copy, Debug, PartialEq, Eq)]
 pub struct Loss {
     pub clock: u32,
     pub position: Position,
     pub kind: LossKind,
     pub flags: Flags,
+}
+
+impl fmt::Display for Loss {
+    ghost output = { λ loss. Some (loss_text loss) };
+
+    fn fmt<W: fmt::Write>(&self, f: &mut fmt::Formatter<W>) -> fmt::Result {
+        let Loss {
+            clock,
+            position,
+            kind,
+            flags,
+        } = *self;
+        write!(f, "clock {clock}, {position} {kind}; {flags}")
+    }
 }
 
 /// What came of the labels of a run, the moments that it had, and its first loss.

@@ -1,12 +1,16 @@
 // Which character of which label.
-ghost use Rattle.std.specs.Prelude.{◌≡◌, ◌<◌};
+ghost use Rattle.std.specs.Prelude.{◌≡◌, Some};
 ghost use Rattle.totes.specs.Outcome.{next_position};
+ghost use Rattle.totes.specs.Words.{position_text};
+
+use crate::case::Case;
+use std::fmt;
 
 /// The totes of a run.
 pub const TOTES: u32 = 20;
 
 /// A character's label and its number in the label, both from 0. Behind the last label stands label 20, which no tote has.
-#[derive(Clone, Copy)]
+#[derive(Clone, Copy, Debug, PartialEq, Eq)]
 pub struct Position {
     pub label: u32,
     pub character: u32,
@@ -21,19 +25,27 @@ impl Position {
     }
 
     /// The character that is sent next.
-    pub(crate) fn next(self, length: u32) -> Position
-        requires { 0 < length }
-        ensures { result ≡ next_position length self }
+    pub(crate) fn next(self, case: Case) -> Position
+        ensures { result ≡ next_position case.length self }
     {
-        if self.character < length - 1 {
+        if self.character < case.length - 1 {
             return Position {
                 label: self.label,
                 character: self.character + 1,
             };
         }
         Position {
-            label: if self.label < 20 { self.label + 1 } else { 20 },
+            label: self.label.saturating_add(1).min(TOTES),
             character: 0,
         }
+    }
+}
+
+impl fmt::Display for Position {
+    ghost output = { λ position. Some (position_text position) };
+
+    fn fmt<W: fmt::Write>(&self, f: &mut fmt::Formatter<W>) -> fmt::Result {
+        let Position { label, character } = *self;
+        write!(f, "character {character} of label {label}")
     }
 }

@@ -1,11 +1,12 @@
 // One run of twenty totes.
-ghost use Rattle.std.specs.Prelude.{◌≡◌, ◌+◌, ◌≤◌, is_some, IfOk, nat_lt};
+ghost use Rattle.std.specs.Prelude.{◌≡◌, ◌+◌, is_some, IfOk, nat_lt};
 ghost use Rattle.cable.specs.declared.direction.Direction.TheVariants.{TowardB};
 ghost use Rattle.cable.specs.Channels.{channel, delay_of};
 ghost use Rattle.totes.specs.Times.{moments_of_run};
 
 use crate::board::Board;
 use crate::case::Case;
+use crate::moment::Moment;
 use crate::outcome::Tally;
 use crate::scanner::Scanner;
 use bench::Bench;
@@ -13,11 +14,12 @@ use cable::direction::Direction;
 use cable::interface::Cable;
 use faults::{Cause, End, Fault};
 use pair::event::Event;
+use pair::opening::Opening;
 
 // A write to an output bit of an end.
 fn write_at(end: End, address: u32, value: u32) -> Event {
     Event {
-        end: end.number(),
+        end: u32::from(end),
         kind: 1,
         address,
         value,
@@ -25,7 +27,7 @@ fn write_at(end: End, address: u32, value: u32) -> Event {
     }
 }
 
-// Moment t, in which the board may acknowledge the character that it has read: bit 18 resets RBRL.
+// A moment in which the board may acknowledge the character that it has read: bit 18 resets RBRL.
 fn have_moment<C: Cable>(bench: &mut Bench<C>, acknowledged: bool) -> Result<(), Fault> {
     if acknowledged {
         bench.moment(&mut [write_at(End::B, 18, 0)])
@@ -42,22 +44,28 @@ pub fn run<C: Cable + Drop>(cable: C, case: Case, interval: u32) -> Result<Tally
     ensures told { IfOk result (λ t. is_some t.first_loss ≡ nat_lt 0 t.lost) }
 {
     if interval > 80000000 {
-        return Err(Fault::unplaced(Cause::OutOfRange));
+        return Err(Fault::from(Cause::OutOfRange));
     }
     let moments = case.moments(interval, cable.delay(Direction::TowardB));
     let mut bench = Bench::new(cable);
-    bench.open(0, case.control, case.rate, case.rate, 0)?;
+    bench.open(Opening {
+        start: 0,
+        control: case.control,
+        x: case.rate,
+        r: case.rate,
+        interval: 0,
+    })?;
     // both ends are ready to send, so each finds CTS active at the other end of the cable
     bench.moment(&mut [write_at(End::A, 16, 1), write_at(End::B, 16, 1)])?;
     let mut scanner = Scanner::new();
     let mut board = Board::new(case);
-    for t in 1..moments {
-        scanner.meet(t, interval);
-        scanner.load(&mut bench, case.length)?;
-        let acknowledged = board.look(&bench, t)?;
+    for number in 1..moments {
+        let moment = Moment { number };
+        scanner.meet(moment, interval);
+        scanner.load(&mut bench, case)?;
+        let acknowledged = board.look(&bench, moment)?;
         have_moment(&mut bench, acknowledged)?;
         board.notice(&bench, acknowledged)?;
     }
-    board.close(&bench)?;
-    Ok(board.tally(moments))
+    board.close(&bench, moments)
 }

@@ -1,8 +1,10 @@
 // The scanner board, at end A.
-ghost use Rattle.std.specs.Prelude.{◌≡◌, ◌<◌, ◌≤◌, nat_lt};
+ghost use Rattle.std.specs.Prelude.{◌≡◌, ◌≤◌};
 ghost use Rattle.totes.specs.Scanning.{tote_met};
 
+use crate::case::Case;
 use crate::inputs::{XBRE, input};
+use crate::moment::Moment;
 use crate::position::{Position, TOTES};
 use bench::Bench;
 use cable::interface::Cable;
@@ -26,31 +28,22 @@ impl Scanner {
         }
     }
 
-    /// Before moment t: if a tote comes, its characters join the queue.
-    pub(crate) fn meet(&mut self, t: u32, interval: u32)
-        requires early { t ≤ 2000000000 }
-        requires interval { interval ≤ 80000000 }
-        ensures { self.new ≡ tote_met t interval self.old }
+    /// Before a moment: if a tote comes, its characters join the queue.
+    pub(crate) fn meet(&mut self, moment: Moment, interval: u32)
+        requires { interval ≤ 80000000 }
+        ensures { self.new ≡ tote_met moment.number interval self.old }
     {
-        if t == self.due && self.totes < TOTES {
+        if moment.number == self.due && self.totes < TOTES {
             self.totes += 1;
-            self.due = t + interval;
+            self.due = moment.number + interval;
         }
     }
 
-    fn has_characters(&self) -> bool
-        ensures { result ≡ nat_lt self.now.next.label self.now.totes }
-    {
-        self.next.label < self.totes
-    }
-
     /// Loads the first character of the queue where the transmit buffer is empty.
-    pub(crate) fn load<C: Cable>(&mut self, bench: &mut Bench<C>, length: u32) -> Result<(), Fault>
-        requires { 0 < length }
-    {
-        if self.has_characters() && input(bench, End::A, XBRE)? {
-            bench.load(End::A.number(), self.next.character)?;
-            self.next = self.next.next(length);
+    pub(crate) fn load<C: Cable>(&mut self, bench: &mut Bench<C>, case: Case) -> Result<(), Fault> {
+        if self.next.label < self.totes && input(bench, End::A, XBRE)? {
+            bench.load(u32::from(End::A), self.next.character)?;
+            self.next = self.next.next(case);
         }
         Ok(())
     }

@@ -1,76 +1,29 @@
 // What a host may ask of one chip.
-ghost use Rattle.std.specs.Prelude.{◌≡◌, ◌+◌, ◌%◌, ◌^◌, ◌<◌, ◌≤◌, true, if◌then◌else◌, ◌==◌};
-ghost use Rattle.acc.specs.Sound.{sound, parts_sound};
-ghost use Rattle.acc.specs.Inputs.{bits_read};
-ghost use Rattle.acc.specs.Outputs.{write_of};
-ghost use Rattle.acc.specs.Calls.{opened_chip, dsr_set, pins_of, recovering, transfer, bits_written, put_answer, put_checked, put_of, put_done, get_answer, get_checked, load_answer, load_checked, load_of, load_done, take_answer, take_checked, take_of, take_done};
+ghost use Rattle.std.specs.Prelude.{◌≡◌, true};
+ghost use Rattle.acc.specs.Sound.{sound};
+ghost use Rattle.acc.specs.Calls.{opened_chip, dsr_set, pins_of, recovering, put_answer, put_checked, put_of, get_answer, load_answer, load_of, take_answer, take_of};
 
 use super::{Acc, Enables, Lines, LoadFlags, Modes, Pins, Received, Registers};
 use faults::Cause;
+use sections::bits::with_bit_above;
 use sections::receiver::Receiver;
 use sections::timer::Timer;
 use sections::transmitter::Transmitter;
 use timing::counts::PhiCount;
 
-// A transfer has at most 16 bits.
-fn transfer(count: u8) -> u8
-    ensures value { result ≡ transfer count }
-    ensures bound { result ≤ 16 }
-{
-    if count < 16 { count } else { 16 }
-}
-
-// One bit more, above the i that are there.
-fn with_bit_above(value: u16, i: u8, bit: bool) -> u16
-    requires few { i ≤ 15 }
-    requires low { value < 2 ^ i }
-    ensures value { result ≡ value + (if bit then 2 ^ i else 0) }
-    ensures low { result < 2 ^ (i + 1) }
-{
-    if bit { value + (1 << i) } else { value }
-}
-
 impl Acc {
     /// A chip as open leaves it.
     pub fn opened(registers: Registers) -> Acc
-        ensures step { result ≡ opened_chip registers }
-        ensures sound { sound result ≡ true }
-    {
-        Acc::idle(registers)
-    }
-
-    fn idle(registers: Registers) -> Acc
-        ensures step { result ≡ opened_chip registers }
-        ensures sound { parts_sound result ≡ true }
+        ensures { result ≡ opened_chip registers }
     {
         Acc {
             registers,
-            load: LoadFlags {
-                ldctrl: false,
-                ldir: false,
-                lrdr: false,
-                lxdr: false,
-            },
-            modes: Modes {
-                tstmd: false,
-                brkon: false,
-            },
-            enables: Enables {
-                rienb: false,
-                xbienb: false,
-                timenb: false,
-                dscenb: false,
-            },
+            load: LoadFlags::default(),
+            modes: Modes::default(),
+            enables: Enables::default(),
             lines: Lines {
-                rtson: false,
-                rts: false,
-                cts: false,
-                dsr: false,
                 rin: true,
-                dsr_setting: false,
-                cts_before: false,
-                dsr_before: false,
-                dsch: false,
+                ..Lines::default()
             },
             transmitter: Transmitter::empty(),
             receiver: Receiver::idle(),
@@ -82,25 +35,20 @@ impl Acc {
 
     /// Sets what the DSR input is driven to. The next φ clock takes it.
     pub fn set_dsr(&mut self, active: bool)
-        requires sound { sound self.old ≡ true }
-        ensures step { self.new ≡ dsr_set active self.old }
-        ensures sound { sound self.new ≡ true }
-    {
-        self.drive_dsr(active);
-    }
-
-    fn drive_dsr(&mut self, active: bool)
-        requires sound { parts_sound self.old ≡ true }
-        ensures step { self.new ≡ dsr_set active self.old }
-        ensures sound { parts_sound self.new ≡ true }
+        ensures { self.new ≡ dsr_set active self.old }
     {
         self.lines.dsr_setting = active;
     }
 
     /// The pins that others see.
+    #[tactic(auto, unfolding(crate::specs::Sound::sound))]
     pub fn pins(&self) -> Pins
-        ensures { result ≡ pins_of self.now }
+        ensures pins { result ≡ pins_of self.now }
+        ensures sound { sound self.now ≡ true }
     {
+        // What is true of every receiver and timer, for the second clause.
+        let _ = &self.receiver.state;
+        let _ = &self.timer.prescaler;
         Pins {
             xout: self.transmitter.xout,
             rts: self.lines.rts,
@@ -115,25 +63,23 @@ impl Acc {
         self.recovery.0 > 0
     }
 
-    /// Loads a character into the transmit buffer. Refused by causes 11, 12 and 13.
-    pub fn load(&mut self, character: u8) -> Result<(), Cause>
-        requires sound { sound self.old ≡ true }
-        ensures answer { result ≡ load_answer self.old }
-        ensures step { self.new ≡ load_of character self.old }
-        ensures sound { sound self.new ≡ true }
-    {
-        self.try_load(character)
-    }
-
-    fn try_load(&mut self, character: u8) -> Result<(), Cause>
-        requires sound { parts_sound self.old ≡ true }
-        ensures answer { result ≡ load_checked self.old }
-        ensures step { self.new ≡ load_done character self.old }
-        ensures sound { parts_sound self.new ≡ true }
+    // Cause 11.
+    fn check_recovered(&self) -> Result<(), Cause>
+        ensures { result ≡ put_checked self.now }
     {
         if self.is_recovering() {
             return Err(Cause::Recovering);
         }
+        Ok(())
+    }
+
+    /// Loads a character into the transmit buffer. Refused by causes 11, 12 and 13.
+    #[tactic(auto, unfolding(crate::specs::Calls::load_answer, crate::specs::Calls::load_of))]
+    pub fn load(&mut self, character: u8) -> Result<(), Cause>
+        ensures answer { result ≡ load_answer self.old }
+        ensures step { self.new ≡ load_of character self.old }
+    {
+        self.check_recovered()?;
         if self.flag() {
             return Err(Cause::BufferNotEnabled);
         }
@@ -145,104 +91,46 @@ impl Acc {
     }
 
     /// Takes the received character with its flags, and resets RBRL. Refused by causes 11 and 14.
+    #[tactic(auto, unfolding(crate::specs::Calls::take_answer, crate::specs::Calls::take_of))]
     pub fn take(&mut self) -> Result<Received, Cause>
-        requires sound { sound self.old ≡ true }
         ensures answer { result ≡ take_answer self.old }
         ensures step { self.new ≡ take_of self.old }
-        ensures sound { sound self.new ≡ true }
     {
-        self.try_take()
-    }
-
-    fn try_take(&mut self) -> Result<Received, Cause>
-        requires sound { parts_sound self.old ≡ true }
-        ensures answer { result ≡ take_checked self.old }
-        ensures step { self.new ≡ take_done self.old }
-        ensures sound { parts_sound self.new ≡ true }
-    {
-        if self.is_recovering() {
-            return Err(Cause::Recovering);
-        }
+        self.check_recovered()?;
         if !self.receiver.rbrl {
             return Err(Cause::NothingReceived);
         }
         self.receiver.release();
-        Ok(Received {
-            character: self.receiver.buffer,
-            rfer: self.receiver.rfer,
-            rover: self.receiver.rover,
-            rper: self.receiver.rper,
-        })
+        Ok(Received::from(self.receiver))
     }
 
     /// Writes the low bits of a number, at most 16, upward from an address, lowest first. Refused by cause 11.
+    // Here and in `get` the loop counts a bit's index, since its address and its weight are made of it. Address and count are two
+    // parameters, as a host names them, and no other function takes them.
+    #[tactic(auto, using(crate::proofs::Writing::bits_written_step), unfolding(crate::specs::Calls::put_answer, crate::specs::Calls::put_of, crate::specs::Calls::bits_written))]
     pub fn put(&mut self, address: u8, count: u8, value: u16) -> Result<(), Cause>
-        requires sound { sound self.old ≡ true }
         ensures answer { result ≡ put_answer self.old }
         ensures step { self.new ≡ put_of address count value self.old }
-        ensures sound { sound self.new ≡ true }
     {
-        self.try_put(address, count, value)
-    }
-
-    fn try_put(&mut self, address: u8, count: u8, value: u16) -> Result<(), Cause>
-        requires sound { sound self.old ≡ true }
-        ensures answer { result ≡ put_checked self.old }
-        ensures step { self.new ≡ put_done address count value self.old }
-        ensures sound { sound self.new ≡ true }
-    {
-        if self.is_recovering() {
-            return Err(Cause::Recovering);
+        self.check_recovered()?;
+        let mut rest = value;
+        for i in 0..count.min(16) {
+            self.write(address as u16 + i as u16, rest % 2 == 1);
+            rest /= 2;
         }
-        self.write_bits(address, transfer(count), value);
         Ok(())
     }
 
-    // The lowest bit of a number.
-    fn write_lowest(&mut self, address: u16, bits: u16)
-        requires sound { sound self.old ≡ true }
-        ensures step { self.new ≡ write_of address (bits % 2 == 1) self.old }
-        ensures sound { sound self.new ≡ true }
-    {
-        self.write(address, bits % 2 == 1);
-    }
-
-    fn write_bits(&mut self, address: u8, count: u8, value: u16)
-        requires sound { sound self.old ≡ true }
-        ensures step { self.new ≡ bits_written count address value self.old }
-        ensures sound { sound self.new ≡ true }
-    {
-        let mut rest = value;
-        for i in 0..count {
-            self.write_lowest(address as u16 + i as u16, rest);
-            rest /= 2;
-        }
-    }
-
     /// Reads at most 16 bits upward from an address, lowest first. Refused by cause 11.
+    #[tactic(auto, unfolding(crate::specs::Calls::get_answer, crate::specs::Inputs::bits_read))]
     pub fn get(&self, address: u8, count: u8) -> Result<u16, Cause>
         ensures { result ≡ get_answer address count self.now }
     {
-        self.try_get(address, count)
-    }
-
-    fn try_get(&self, address: u8, count: u8) -> Result<u16, Cause>
-        ensures { result ≡ get_checked address count self.now }
-    {
-        if self.is_recovering() {
-            return Err(Cause::Recovering);
-        }
-        Ok(self.read_bits(address, transfer(count)))
-    }
-
-    fn read_bits(&self, address: u8, count: u8) -> u16
-        requires few { count ≤ 16 }
-        ensures { result ≡ bits_read count address self.now }
-    {
+        self.check_recovered()?;
         let mut value = 0;
-        for i in 0..count {
+        for i in 0..count.min(16) {
             value = with_bit_above(value, i, self.read(address as u16 + i as u16));
         }
-        value
+        Ok(value)
     }
 }

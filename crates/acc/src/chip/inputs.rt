@@ -1,6 +1,6 @@
 // Input bits and pins: what the processor and the line see of a chip.
 ghost use Rattle.std.specs.Prelude.{◌≡◌};
-ghost use Rattle.acc.specs.Inputs.{dscint, timint, xbint, rbint, interrupt, flag, rcverr, receiver_bit, buffer_bit, line_bit, input_bit, read_of};
+ghost use Rattle.acc.specs.Inputs.{dscint, timint, xbint, rbint, interrupt, flag, rcverr, receiver_bit, buffer_bit, line_bit, read_of};
 
 use super::Acc;
 
@@ -49,10 +49,13 @@ impl Acc {
         self.receiver.rfer || self.receiver.rover || self.receiver.rper
     }
 
-    fn receiver_bit(&self, address: u16) -> bool
-        ensures { result ≡ receiver_bit address self.now }
+    /// One input bit; there is nothing to read beyond 31.
+    #[tactic(auto, unfolding(crate::specs::Inputs::read_of))]
+    pub fn read(&self, address: u16) -> bool
+        ensures { result ≡ read_of address self.now }
     {
         match address {
+            0..=7 => (self.receiver.buffer >> address) % 2 == 1,
             9 => self.rcverr(),
             10 => self.receiver.rper,
             11 => self.receiver.rover,
@@ -60,28 +63,12 @@ impl Acc {
             13 => self.receiver.rfbd(),
             14 => self.receiver.rsbd(),
             15 => self.lines.rin,
-            _ => false,
-        }
-    }
-
-    fn buffer_bit(&self, address: u16) -> bool
-        ensures { result ≡ buffer_bit address self.now }
-    {
-        match address {
             16 => self.rbint(),
             17 => self.xbint(),
             19 => self.timint(),
             20 => self.dscint(),
             21 => self.receiver.rbrl,
             22 => self.transmitter.xbre,
-            _ => false,
-        }
-    }
-
-    fn line_bit(&self, address: u16) -> bool
-        ensures { result ≡ line_bit address self.now }
-    {
-        match address {
             23 => self.transmitter.xsre(),
             24 => self.timer.timerr,
             25 => self.timer.timelp,
@@ -93,23 +80,5 @@ impl Acc {
             31 => self.interrupt(),
             _ => false,
         }
-    }
-
-    fn input_bit(&self, address: u16) -> bool
-        ensures { result ≡ input_bit address self.now }
-    {
-        match address {
-            0..=7 => (self.receiver.buffer >> address) % 2 == 1,
-            8..=15 => self.receiver_bit(address),
-            16..=22 => self.buffer_bit(address),
-            _ => self.line_bit(address),
-        }
-    }
-
-    /// One input bit; there is nothing to read beyond 31.
-    pub fn read(&self, address: u16) -> bool
-        ensures { result ≡ read_of address self.now }
-    {
-        self.input_bit(address)
     }
 }

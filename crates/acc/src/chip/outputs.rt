@@ -1,27 +1,18 @@
 // Output bits: what a write of the processor does.
-ghost use Rattle.std.specs.Prelude.{◌≡◌, ◌≤◌, true};
-ghost use Rattle.acc.specs.Sound.{sound, parts_sound};
-ghost use Rattle.acc.specs.Outputs.{write_of, written, control_written, interval_written, rates_written, ldir_fallen, ldir_written, flag_written, mode_written, reset_chip};
+ghost use Rattle.std.specs.Prelude.{◌≡◌, ◌≤◌};
+ghost use Rattle.acc.specs.Outputs.{write_of, control_written, interval_written, rates_written, ldir_fallen, ldir_written, flag_written, mode_written, reset_chip};
 
 use super::{Acc, Enables, LoadFlags, Modes};
-use sections::bits::{byte_with_bit, rate_with_bit};
+use sections::bits::with_bit;
 use sections::timer::Timer;
 use timing::counts::PhiCount;
 
 impl Acc {
     /// A write to one output bit.
+    // An address and a level are two parameters, since they are what the processor hands over: no function below keeps them.
+    #[tactic(auto, unfolding(crate::specs::Outputs::write_of))]
     pub fn write(&mut self, address: u16, v: bool)
-        requires sound { sound self.old ≡ true }
-        ensures step { self.new ≡ write_of address v self.old }
-        ensures sound { sound self.new ≡ true }
-    {
-        self.write_bit(address, v);
-    }
-
-    fn write_bit(&mut self, address: u16, v: bool)
-        requires sound { parts_sound self.old ≡ true }
-        ensures step { self.new ≡ written address v self.old }
-        ensures sound { parts_sound self.new ≡ true }
+        ensures { self.new ≡ write_of address v self.old }
     {
         match address {
             0..=10 if self.load.ldctrl => self.write_control(address, v),
@@ -36,46 +27,38 @@ impl Acc {
     }
 
     fn write_control(&mut self, address: u16, v: bool)
-        requires sound { parts_sound self.old ≡ true }
-        ensures step { self.new ≡ control_written address v self.old }
-        ensures sound { parts_sound self.new ≡ true }
+        ensures { self.new ≡ control_written address v self.old }
     {
-        self.registers.control = byte_with_bit(self.registers.control, address, v);
+        self.registers.control = with_bit::<8>(self.registers.control as u16, address, v) as u8;
         if address == 7 {
             self.load.ldctrl = false;
         }
     }
 
     fn write_interval(&mut self, address: u16, v: bool)
-        requires sound { parts_sound self.old ≡ true }
-        ensures step { self.new ≡ interval_written address v self.old }
-        ensures sound { parts_sound self.new ≡ true }
+        ensures { self.new ≡ interval_written address v self.old }
     {
-        self.registers.interval = byte_with_bit(self.registers.interval, address, v);
+        self.registers.interval = with_bit::<8>(self.registers.interval as u16, address, v) as u8;
         if address == 7 {
             self.drop_ldir();
         }
     }
 
     fn drop_ldir(&mut self)
-        requires sound { parts_sound self.old ≡ true }
-        ensures step { self.new ≡ ldir_fallen self.old }
-        ensures sound { parts_sound self.new ≡ true }
+        ensures { self.new ≡ ldir_fallen self.old }
     {
         self.load.ldir = false;
         self.timer.load(self.registers.interval);
     }
 
     fn write_rates(&mut self, address: u16, v: bool)
-        requires sound { parts_sound self.old ≡ true }
-        ensures step { self.new ≡ rates_written address v self.old }
-        ensures sound { parts_sound self.new ≡ true }
+        ensures { self.new ≡ rates_written address v self.old }
     {
         if self.load.lrdr {
-            self.registers.receive_rate = rate_with_bit(self.registers.receive_rate, address, v);
+            self.registers.receive_rate = with_bit::<11>(self.registers.receive_rate, address, v);
         }
         if self.load.lxdr {
-            self.registers.transmit_rate = rate_with_bit(self.registers.transmit_rate, address, v);
+            self.registers.transmit_rate = with_bit::<11>(self.registers.transmit_rate, address, v);
         }
         if address == 10 {
             self.load.lrdr = false;
@@ -85,9 +68,7 @@ impl Acc {
     fn write_flag(&mut self, address: u16, v: bool)
         requires low { 11 ≤ address }
         requires high { address ≤ 14 }
-        requires sound { parts_sound self.old ≡ true }
-        ensures step { self.new ≡ flag_written address v self.old }
-        ensures sound { parts_sound self.new ≡ true }
+        ensures { self.new ≡ flag_written address v self.old }
     {
         match address {
             11 => self.load.lxdr = v,
@@ -98,9 +79,7 @@ impl Acc {
     }
 
     fn write_ldir(&mut self, v: bool)
-        requires sound { parts_sound self.old ≡ true }
-        ensures step { self.new ≡ ldir_written v self.old }
-        ensures sound { parts_sound self.new ≡ true }
+        ensures { self.new ≡ ldir_written v self.old }
     {
         if self.load.ldir && !v {
             self.drop_ldir();
@@ -112,9 +91,7 @@ impl Acc {
     fn write_mode(&mut self, address: u16, v: bool)
         requires low { 15 ≤ address }
         requires high { address ≤ 21 }
-        requires sound { parts_sound self.old ≡ true }
-        ensures step { self.new ≡ mode_written address v self.old }
-        ensures sound { parts_sound self.new ≡ true }
+        ensures { self.new ≡ mode_written address v self.old }
     {
         match address {
             15 => self.modes.tstmd = v,
@@ -143,8 +120,7 @@ impl Acc {
 
     // The registers, the buffers and the levels last seen stay.
     fn reset(&mut self)
-        ensures step { self.new ≡ reset_chip self.old }
-        ensures sound { parts_sound self.new ≡ true }
+        ensures { self.new ≡ reset_chip self.old }
     {
         self.load = LoadFlags {
             ldctrl: true,
@@ -152,16 +128,8 @@ impl Acc {
             lrdr: true,
             lxdr: true,
         };
-        self.modes = Modes {
-            tstmd: false,
-            brkon: false,
-        };
-        self.enables = Enables {
-            rienb: false,
-            xbienb: false,
-            timenb: false,
-            dscenb: false,
-        };
+        self.modes = Modes::default();
+        self.enables = Enables::default();
         self.lines.rtson = false;
         self.lines.rts = false;
         self.lines.dsch = false;

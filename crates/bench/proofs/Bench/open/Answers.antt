@@ -1,15 +1,12 @@
-use Rattle.std.proofs.Common.{is_ok, sym, ap, ◌∙◌, subst}
-use Rattle.pair.specs.Consequences.{Transmits}
+use Rattle.std.proofs.Common.{◌≡◌, Ok, is_ok, ap, rules}
+use Rattle.pair.specs.Calls.{open_answer, open_of}
 use Rattle.pair.proofs.NothingLost.{opened_transmits}
-use Rattle.bench.specs.View.{bench_of, opening}
 use Rattle.bench.proofs.Bench.open.Goals as goal
 
-pub returns : goal.returns
-returns g c =
-    let o = opening c.args.start c.args.control c.args.x c.args.r c.args.interval in
-    let m = bench_of g.C.Cable.meaning c.args.self.now in
-    record {
-      answer = c.try_open.ensures.answer;
-      state = c.try_open.ensures.state;
-      transmits = λ h. subst (Transmits o) (sym c.try_open.ensures.state) (opened_transmits o m (sym (ap is_ok c.try_open.ensures.answer) ∙ h));
-    }
+pub returns-clause-transmits : goal.returns-clause-transmits
+returns-clause-transmits g c =
+    let o = c.args.opening in
+    let m = c.args.self.now.meaning in
+    let accepted : open_answer o m ≡ Ok tt = search rules in
+    let left : c.start.new.self.meaning ≡ open_of o m = search rules in
+    λ h. rw left (opened_transmits o m (ap is_ok accepted))

@@ -1,10 +1,8 @@
 use Rattle.std.proofs.Common.{◌≡◌, ◌+◌, ◌-◌}
 use Rattle.pair.specs.Calls.{moves}
-use Rattle.bench.specs.View.{bench_of}
 use Rattle.bench.proofs.Bench.run_on.Given as goal
 
 -- the moments that are left give the whole
-abbrev pub invariant-loop-i : goal.invariant-loop-i
-invariant-loop-i g l =
-    let m = g.C.Cable.meaning in
-    (l.self.clock ≡ l.initial.self.clock + l.i) × (moves (l.n - l.i) (bench_of m l.self) ≡ moves l.n (bench_of m l.initial.self))
+abbrev pub invariant-loop : goal.invariant-loop
+invariant-loop g l =
+    (l.self.meaning.clock ≡ l.initial.self.meaning.clock + l.counter) × (moves (l.n - l.counter) l.self.meaning ≡ moves l.n l.initial.self.meaning)

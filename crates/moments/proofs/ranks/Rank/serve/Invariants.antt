@@ -1,5 +1,4 @@
-use Rattle.std.proofs.Common.{◌≡◌, ◌+◌, ◌≤◌, true}
-use Rattle.acc.specs.Sound.{sound}
+use Rattle.std.proofs.Common.{◌+◌, ◌≤◌}
 use Rattle.moments.specs.Ranks.{serving, serve_one}
 use Rattle.moments.proofs.Pass.{Pass}
 use Rattle.moments.proofs.ranks.Rank.serve.Given as goal
@@ -7,6 +6,4 @@ use Rattle.moments.proofs.ranks.Rank.serve.Given as goal
 abbrev pub invariant-loop-i : goal.invariant-loop-i
 invariant-loop-i l =
     (l.n ≤ l.initial.n + l.i)
-    × (sound l.a ≡ true)
-    × (sound l.b ≡ true)
-    × Pass (serve_one l.self) (serving l.initial.n l.initial.a l.initial.b) (serving l.n l.a l.b) l.initial.events l.events l.i
+    × Pass (serve_one l.self) (serving l.initial.n l.initial.chips.a l.initial.chips.b) (serving l.n l.chips.a l.chips.b) l.initial.events l.events l.i
