@@ -1,6 +1,5 @@
 pub mod Calls
 pub mod Clock
-pub mod Fields
 pub mod Inputs
 pub mod Outputs
 pub mod Sound

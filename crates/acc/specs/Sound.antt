@@ -1,4 +1,4 @@
--- What is true of every chip: the invariants of its type and of its parts, as one test. Assumes nothing.
+-- What every method of the chip asks and gives back. Assumes nothing.
 use Rattle.std.specs.Prelude.{Bool, ◌&&◌, nat_le}
 use Rattle.sections.specs.Receive.{sound_receiver}
 use Rattle.sections.specs.Time.{sound_timer}

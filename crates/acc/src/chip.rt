@@ -6,7 +6,6 @@ use sections::receiver::Receiver;
 use sections::timer::Timer;
 use sections::transmitter::Transmitter;
 use std::fmt;
-use std::marker::Model;
 use timing::counts::PhiCount;
 
 mod calls;
@@ -63,9 +62,8 @@ pub struct Lines {
 }
 
 /// One TMS 9902A.
-///
-/// True of every chip: at most 3 φ clocks have passed since the last internal clock, and its transmitter, receiver and timer are
-/// sound. `Acc::pins` says so in a clause.
+// That a chip is sound stands in the clauses of its methods and not in its type, and so do the facts of its transmitter, receiver and
+// timer: a type that sound ones alone have would ask of whoever makes one what reading and resetting it do not need.
 #[derive(Clone, Copy)]
 pub struct Acc {
     pub registers: Registers,
@@ -80,19 +78,6 @@ pub struct Acc {
     pub divider: PhiCount,
     /// φ clocks after a reset in which nothing may yet be read or written.
     pub recovery: PhiCount,
-}
-
-impl Model for Acc {
-    ghost use Rattle.std.specs.Prelude.{◌≤◌};
-    ghost use Rattle.acc.specs.Fields.{AccFields};
-
-    ghost Value = { AccFields };
-
-    ghost view = { λ e. e };
-
-    ghost invariant = { λ e. e.divider.0 ≤ 3 };
-
-    ghost inverse = { λ e. e };
 }
 
 /// A received character with its flags.

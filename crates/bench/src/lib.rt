@@ -22,7 +22,8 @@ pub struct Bench<C: Cable> {
 }
 
 impl<C: Cable> Model for Bench<C> {
-    ghost use Rattle.std.specs.Prelude.{◌≤◌};
+    ghost use Rattle.std.specs.Prelude.{◌≡◌, ◌≤◌, true};
+    ghost use Rattle.acc.specs.Sound.{sound};
     ghost use Rattle.pair.specs.Bench.{last_clock};
     ghost use Rattle.bench.specs.View.{Seen};
 
@@ -33,5 +34,5 @@ impl<C: Cable> Model for Bench<C> {
       meaning = record { a = s.chips.a; b = s.chips.b; channels = C.meaning s.cable; clock = s.clock; is_open = s.is_open };
     } };
 
-    ghost invariant = { λ s. s.clock ≤ last_clock };
+    ghost invariant = { λ s. (s.clock ≤ last_clock) × (sound s.chips.a ≡ true) × (sound s.chips.b ≡ true) };
 }

@@ -2,6 +2,8 @@
 #![tactic(auto)]
 
 #[cfg(test)]
+mod any_numbers;
+#[cfg(test)]
 mod benches;
 #[cfg(test)]
 mod line_numbers;

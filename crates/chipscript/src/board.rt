@@ -1,4 +1,7 @@
 // A board with one chip.
+ghost use Rattle.std.specs.Prelude.{◌≡◌, true};
+ghost use Rattle.acc.specs.Sound.{sound};
+
 use crate::commands::Command;
 use acc::chip::{Acc, Received, Registers};
 use faults::Cause;
@@ -22,9 +25,11 @@ impl fmt::Display for Answer {
     }
 }
 
+// Its chip is sound, which the chip's type does not say.
 #[derive(Drop)]
 pub(crate) struct Board {
     chip: Acc,
+    ghost sound: { sound chip ≡ true },
 }
 
 impl Board {

@@ -1,4 +1,7 @@
 // A board with one chip in test mode.
+ghost use Rattle.std.specs.Prelude.{◌≡◌, true};
+ghost use Rattle.acc.specs.Sound.{sound};
+
 use acc::chip::{Acc, Received, Registers};
 
 /// What a clock did: the character that was stored, and whether INT rose.
@@ -8,9 +11,11 @@ pub(crate) struct Clocked {
     pub(crate) int_rises: bool,
 }
 
+// Its chip is sound, which the chip's type does not say.
 #[derive(Drop)]
 pub(crate) struct Board {
     chip: Acc,
+    ghost sound: { sound chip ≡ true },
 }
 
 impl Board {

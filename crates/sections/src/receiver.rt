@@ -1,9 +1,8 @@
 // The receiver: the level that it last saw, the character that is coming in, and the receive buffer with its flags.
-ghost use Rattle.std.specs.Prelude.{◌≡◌};
-ghost use Rattle.sections.specs.Receive.{listen, odd_held, rsbd, rfbd, idle_receiver, released, reset_receiver};
+ghost use Rattle.std.specs.Prelude.{◌≡◌, true};
+ghost use Rattle.sections.specs.Receive.{listen, odd_held, rsbd, rfbd, idle_receiver, released, reset_receiver, sound_receiver};
 
 use crate::bits::with_bit_above;
-use std::marker::Model;
 use std::mem;
 use timing::counts::InternalCount;
 use timing::ones::{data_of, odd_ones, parity_for};
@@ -28,8 +27,6 @@ pub enum Receiving {
 }
 
 /// The receiver. RSBD and RFBD follow from its state.
-///
-/// True of every receiver: no countdown is over 32,768, and at most 9 samples of one character are held, each in its place.
 #[derive(Clone, Copy)]
 pub struct Receiver {
     pub state: Receiving,
@@ -50,25 +47,11 @@ fn is_odd(held: u16) -> bool
     odd_ones((held / 2 % 256) as u8) != (held % 2 == 1)
 }
 
-impl Model for Receiver {
-    ghost use Rattle.std.specs.Prelude.{◌≡◌, true};
-    ghost use Rattle.sections.specs.Fields.{ReceiverFields};
-
-    ghost Value = { ReceiverFields };
-
-    ghost use Rattle.sections.specs.Receive.{sound_receiver};
-
-    ghost view = { λ r. r };
-
-    ghost invariant = { λ r. sound_receiver r ≡ true };
-
-    ghost inverse = { λ r. r };
-}
-
 impl Receiver {
     /// As open leaves it: idle, having seen mark, with nothing received.
     pub fn idle() -> Receiver
-        ensures { result ≡ idle_receiver }
+        ensures step { result ≡ idle_receiver }
+        ensures sound { sound_receiver result ≡ true }
     {
         Receiver {
             state: Receiving::Idle,
@@ -97,14 +80,17 @@ impl Receiver {
 
     /// The received character has been seen: RBRL becomes 0.
     pub fn release(&mut self)
-        ensures { self.new ≡ released self.old }
+        requires sound { sound_receiver self.old ≡ true }
+        ensures step { self.new ≡ released self.old }
+        ensures sound { sound_receiver self.new ≡ true }
     {
         self.rbrl = false;
     }
 
     /// A reset: idle having seen space, no flag set; the buffer keeps its bits.
     pub fn reset(&mut self)
-        ensures { self.new ≡ reset_receiver self.old }
+        ensures step { self.new ≡ reset_receiver self.old }
+        ensures sound { sound_receiver self.new ≡ true }
     {
         *self = Receiver {
             seen: false,
@@ -116,7 +102,9 @@ impl Receiver {
     /// One internal clock, at which the line has this level.
     #[tactic(auto, unfolding(crate::specs::Receive::listen))]
     pub fn tick(&mut self, control: u8, rate: u16, level: bool)
-        ensures { self.new ≡ listen control rate level self.old }
+        requires sound { sound_receiver self.old ≡ true }
+        ensures step { self.new ≡ listen control rate level self.old }
+        ensures sound { sound_receiver self.new ≡ true }
     {
         let seen = mem::replace(&mut self.seen, level);
         match (&mut self.state, level) {

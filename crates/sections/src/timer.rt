@@ -1,13 +1,10 @@
 // The interval timer.
-ghost use Rattle.std.specs.Prelude.{◌≡◌};
-ghost use Rattle.sections.specs.Time.{counted, tick_of, timer_loaded, timer_at, acknowledged};
+ghost use Rattle.std.specs.Prelude.{◌≡◌, true};
+ghost use Rattle.sections.specs.Time.{counted, tick_of, timer_loaded, timer_at, acknowledged, sound_timer};
 
-use std::marker::Model;
 use timing::counts::InternalCount;
 
 /// The prescaler, the count in force, TIMELP (it has elapsed) and TIMERR (it elapsed again before that was seen).
-///
-/// True of every timer: the prescaler is below 64.
 #[derive(Clone, Copy)]
 pub struct Timer {
     pub prescaler: InternalCount,
@@ -16,25 +13,11 @@ pub struct Timer {
     pub timerr: bool,
 }
 
-impl Model for Timer {
-    ghost use Rattle.std.specs.Prelude.{◌≡◌, true};
-    ghost use Rattle.sections.specs.Fields.{TimerFields};
-
-    ghost Value = { TimerFields };
-
-    ghost use Rattle.sections.specs.Time.{sound_timer};
-
-    ghost view = { λ t. t };
-
-    ghost invariant = { λ t. sound_timer t ≡ true };
-
-    ghost inverse = { λ t. t };
-}
-
 impl Timer {
     /// As open leaves it: at the interval, with nothing elapsed.
     pub fn at(interval: u8) -> Timer
-        ensures { result ≡ timer_at interval }
+        ensures step { result ≡ timer_at interval }
+        ensures sound { sound_timer result ≡ true }
     {
         Timer {
             prescaler: InternalCount(0),
@@ -46,7 +29,8 @@ impl Timer {
 
     /// LDIR has fallen: the count is loaded, and the prescaler begins anew.
     pub fn load(&mut self, interval: u8)
-        ensures { self.new ≡ timer_loaded interval self.old }
+        ensures step { self.new ≡ timer_loaded interval self.old }
+        ensures sound { sound_timer self.new ≡ true }
     {
         *self = Timer {
             timelp: self.timelp,
@@ -57,7 +41,9 @@ impl Timer {
 
     /// TIMELP and TIMERR have been seen: both become 0.
     pub fn acknowledge(&mut self)
-        ensures { self.new ≡ acknowledged self.old }
+        requires sound { sound_timer self.old ≡ true }
+        ensures step { self.new ≡ acknowledged self.old }
+        ensures sound { sound_timer self.new ≡ true }
     {
         self.timelp = false;
         self.timerr = false;
@@ -66,7 +52,9 @@ impl Timer {
     /// One internal clock.
     #[tactic(auto, unfolding(crate::specs::Time::tick_of))]
     pub fn tick(&mut self, interval: u8, tstmd: bool)
-        ensures { self.new ≡ tick_of interval tstmd self.old }
+        requires sound { sound_timer self.old ≡ true }
+        ensures step { self.new ≡ tick_of interval tstmd self.old }
+        ensures sound { sound_timer self.new ≡ true }
     {
         let limit = if tstmd { 2 } else { 64 };
         self.prescaler.0 += 1;

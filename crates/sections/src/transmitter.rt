@@ -1,9 +1,8 @@
 // The transmitter: the transmit buffer, the shift register and XOUT.
-ghost use Rattle.std.specs.Prelude.{◌≡◌, ◌<◌};
-ghost use Rattle.sections.specs.Transmit.{word_of, empty_transmitter, buffer_written, buffer_loaded, reset_transmitter, xsre, send, idle_rules};
+ghost use Rattle.std.specs.Prelude.{◌≡◌, ◌<◌, true};
+ghost use Rattle.sections.specs.Transmit.{word_of, empty_transmitter, buffer_written, buffer_loaded, reset_transmitter, xsre, send, idle_rules, sound_transmitter};
 
 use crate::bits::with_bit;
-use std::marker::Model;
 use timing::counts::InternalCount;
 use timing::ones::{data_of, parity_bit_of};
 use timing::registers::{Control, Format, StopLength, half_bits_of};
@@ -27,8 +26,6 @@ pub enum Sending {
 }
 
 /// The transmitter. An idle one whose XOUT is space is in a break.
-///
-/// True of every transmitter: no countdown is over 32,768, and at most 9 bits of one character are to come.
 #[derive(Clone, Copy)]
 pub struct Transmitter {
     pub state: Sending,
@@ -51,25 +48,11 @@ fn word_of(format: Format, character: u8) -> u16
     }
 }
 
-impl Model for Transmitter {
-    ghost use Rattle.std.specs.Prelude.{◌≡◌, true};
-    ghost use Rattle.sections.specs.Fields.{TransmitterFields};
-
-    ghost Value = { TransmitterFields };
-
-    ghost use Rattle.sections.specs.Transmit.{sound_transmitter};
-
-    ghost view = { λ t. t };
-
-    ghost invariant = { λ t. sound_transmitter t ≡ true };
-
-    ghost inverse = { λ t. t };
-}
-
 impl Transmitter {
     /// As open leaves it: nothing to send, and the line at mark.
     pub fn empty() -> Transmitter
-        ensures { result ≡ empty_transmitter }
+        ensures step { result ≡ empty_transmitter }
+        ensures sound { sound_transmitter result ≡ true }
     {
         Transmitter {
             state: Sending::Idle,
@@ -88,7 +71,9 @@ impl Transmitter {
 
     /// A write to bit k of the transmit buffer. Bit 7 resets XBRE as it loads.
     pub fn write_bit(&mut self, k: u16, v: bool)
-        ensures { self.new ≡ buffer_written k v self.old }
+        requires sound { sound_transmitter self.old ≡ true }
+        ensures step { self.new ≡ buffer_written k v self.old }
+        ensures sound { sound_transmitter self.new ≡ true }
     {
         self.buffer = with_bit::<8>(self.buffer as u16, k, v) as u8;
         if k == 7 {
@@ -98,7 +83,9 @@ impl Transmitter {
 
     /// A whole character into the transmit buffer.
     pub fn load(&mut self, character: u8)
-        ensures { self.new ≡ buffer_loaded character self.old }
+        requires sound { sound_transmitter self.old ≡ true }
+        ensures step { self.new ≡ buffer_loaded character self.old }
+        ensures sound { sound_transmitter self.new ≡ true }
     {
         self.buffer = character;
         self.xbre = false;
@@ -106,7 +93,8 @@ impl Transmitter {
 
     /// A reset: idle with XOUT at mark, XBRE 1; the buffer keeps its bits.
     pub fn reset(&mut self)
-        ensures { self.new ≡ reset_transmitter self.old }
+        ensures step { self.new ≡ reset_transmitter self.old }
+        ensures sound { sound_transmitter self.new ≡ true }
     {
         *self = Transmitter {
             buffer: self.buffer,
@@ -119,7 +107,9 @@ impl Transmitter {
     // would be made anew at each clock.
     #[tactic(auto, unfolding(crate::specs::Transmit::send))]
     pub fn tick(&mut self, control: u8, rate: u16, brkon: bool, go: bool)
-        ensures { self.new ≡ send control rate brkon go self.old }
+        requires sound { sound_transmitter self.old ≡ true }
+        ensures step { self.new ≡ send control rate brkon go self.old }
+        ensures sound { sound_transmitter self.new ≡ true }
     {
         match &mut self.state {
             Sending::Element { left, .. } if left.0 > 1 => left.0 -= 1,
@@ -154,7 +144,8 @@ impl Transmitter {
 
     // An idle transmitter does what the first rule that fits says: a break, one clock of mark after a break, the start, or mark.
     fn apply_idle_rules(&mut self, control: u8, rate: u16, brkon: bool, go: bool)
-        ensures { self.new ≡ idle_rules control rate brkon go self.old }
+        ensures step { self.new ≡ idle_rules control rate brkon go self.old }
+        ensures sound { sound_transmitter self.new ≡ true }
     {
         self.state = Sending::Idle;
         if brkon && self.xbre && go {

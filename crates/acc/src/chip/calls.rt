@@ -13,8 +13,10 @@ use timing::counts::PhiCount;
 
 impl Acc {
     /// A chip as open leaves it.
+    #[tactic(auto, unfolding(crate::specs::Sound::sound))]
     pub fn opened(registers: Registers) -> Acc
-        ensures { result ≡ opened_chip registers }
+        ensures step { result ≡ opened_chip registers }
+        ensures sound { sound result ≡ true }
     {
         Acc {
             registers,
@@ -34,21 +36,19 @@ impl Acc {
     }
 
     /// Sets what the DSR input is driven to. The next φ clock takes it.
+    #[tactic(auto, unfolding(crate::specs::Sound::sound))]
     pub fn set_dsr(&mut self, active: bool)
-        ensures { self.new ≡ dsr_set active self.old }
+        requires sound { sound self.old ≡ true }
+        ensures step { self.new ≡ dsr_set active self.old }
+        ensures sound { sound self.new ≡ true }
     {
         self.lines.dsr_setting = active;
     }
 
     /// The pins that others see.
-    #[tactic(auto, unfolding(crate::specs::Sound::sound))]
     pub fn pins(&self) -> Pins
-        ensures pins { result ≡ pins_of self.now }
-        ensures sound { sound self.now ≡ true }
+        ensures { result ≡ pins_of self.now }
     {
-        // What is true of every receiver and timer, for the second clause.
-        let _ = &self.receiver.state;
-        let _ = &self.timer.prescaler;
         Pins {
             xout: self.transmitter.xout,
             rts: self.lines.rts,
@@ -74,10 +74,12 @@ impl Acc {
     }
 
     /// Loads a character into the transmit buffer. Refused by causes 11, 12 and 13.
-    #[tactic(auto, unfolding(crate::specs::Calls::load_answer, crate::specs::Calls::load_of))]
+    #[tactic(auto, unfolding(crate::specs::Calls::load_answer, crate::specs::Calls::load_of, crate::specs::Sound::sound))]
     pub fn load(&mut self, character: u8) -> Result<(), Cause>
+        requires sound { sound self.old ≡ true }
         ensures answer { result ≡ load_answer self.old }
         ensures step { self.new ≡ load_of character self.old }
+        ensures sound { sound self.new ≡ true }
     {
         self.check_recovered()?;
         if self.flag() {
@@ -91,10 +93,12 @@ impl Acc {
     }
 
     /// Takes the received character with its flags, and resets RBRL. Refused by causes 11 and 14.
-    #[tactic(auto, unfolding(crate::specs::Calls::take_answer, crate::specs::Calls::take_of))]
+    #[tactic(auto, unfolding(crate::specs::Calls::take_answer, crate::specs::Calls::take_of, crate::specs::Sound::sound))]
     pub fn take(&mut self) -> Result<Received, Cause>
+        requires sound { sound self.old ≡ true }
         ensures answer { result ≡ take_answer self.old }
         ensures step { self.new ≡ take_of self.old }
+        ensures sound { sound self.new ≡ true }
     {
         self.check_recovered()?;
         if !self.receiver.rbrl {
@@ -109,8 +113,10 @@ impl Acc {
     // parameters, as a host names them, and no other function takes them.
     #[tactic(auto, using(crate::proofs::Writing::bits_written_step), unfolding(crate::specs::Calls::put_answer, crate::specs::Calls::put_of, crate::specs::Calls::bits_written))]
     pub fn put(&mut self, address: u8, count: u8, value: u16) -> Result<(), Cause>
+        requires sound { sound self.old ≡ true }
         ensures answer { result ≡ put_answer self.old }
         ensures step { self.new ≡ put_of address count value self.old }
+        ensures sound { sound self.new ≡ true }
     {
         self.check_recovered()?;
         let mut rest = value;

@@ -1,5 +1,6 @@
 // One φ clock.
-ghost use Rattle.std.specs.Prelude.{◌≡◌};
+ghost use Rattle.std.specs.Prelude.{◌≡◌, true};
+ghost use Rattle.acc.specs.Sound.{parts_sound, sound};
 ghost use Rattle.acc.specs.Clock.{clock_of, serve_of, begun_clock, fires, divided, compared, rts_ended};
 
 use super::Acc;
@@ -8,9 +9,11 @@ use timing::registers::Control;
 
 impl Acc {
     /// One φ clock, at which the line has this level and the other board's RTS this state.
-    #[tactic(auto, unfolding(crate::specs::Clock::clock_of))]
+    #[tactic(auto, unfolding(crate::specs::Clock::clock_of, crate::specs::Sound::sound))]
     pub fn clock(&mut self, rin: bool, cts: bool)
-        ensures { self.new ≡ clock_of rin cts self.old }
+        requires sound { sound self.old ≡ true }
+        ensures step { self.new ≡ clock_of rin cts self.old }
+        ensures sound { sound self.new ≡ true }
     {
         self.begin_clock(rin, cts);
         if self.divide() {
@@ -36,8 +39,10 @@ impl Acc {
 
     // The divider: whether this is an internal clock.
     fn divide(&mut self) -> bool
+        requires sound { parts_sound self.old ≡ true }
         ensures fires { result ≡ fires self.old }
         ensures step { self.new ≡ divided self.old }
+        ensures sound { parts_sound self.new ≡ true }
     {
         let q = Control::from(self.registers.control).divider.q();
         self.divider.0 += 1;
@@ -51,7 +56,9 @@ impl Acc {
     // An internal clock.
     #[tactic(auto, unfolding(crate::specs::Clock::serve_of))]
     fn serve(&mut self)
-        ensures { self.new ≡ serve_of self.old }
+        requires sound { parts_sound self.old ≡ true }
+        ensures step { self.new ≡ serve_of self.old }
+        ensures sound { parts_sound self.new ≡ true }
     {
         self.compare_status();
         self.timer.tick(self.registers.interval, self.modes.tstmd);
@@ -70,7 +77,9 @@ impl Acc {
     }
 
     fn compare_status(&mut self)
-        ensures { self.new ≡ compared self.old }
+        requires sound { parts_sound self.old ≡ true }
+        ensures step { self.new ≡ compared self.old }
+        ensures sound { parts_sound self.new ≡ true }
     {
         if self.lines.cts != self.lines.cts_before || self.lines.dsr != self.lines.dsr_before {
             self.lines.dsch = true;
@@ -80,7 +89,9 @@ impl Acc {
     }
 
     fn end_rts(&mut self)
-        ensures { self.new ≡ rts_ended self.old }
+        requires sound { parts_sound self.old ≡ true }
+        ensures step { self.new ≡ rts_ended self.old }
+        ensures sound { parts_sound self.new ≡ true }
     {
         let transmitter = &self.transmitter;
         if !self.lines.rtson && transmitter.xsre() && transmitter.xbre && !self.modes.brkon {

@@ -1,5 +1,6 @@
 // Output bits: what a write of the processor does.
-ghost use Rattle.std.specs.Prelude.{◌≡◌, ◌≤◌};
+ghost use Rattle.std.specs.Prelude.{◌≡◌, ◌≤◌, true};
+ghost use Rattle.acc.specs.Sound.{parts_sound, sound};
 ghost use Rattle.acc.specs.Outputs.{write_of, control_written, interval_written, rates_written, ldir_fallen, ldir_written, flag_written, mode_written, reset_chip};
 
 use super::{Acc, Enables, LoadFlags, Modes};
@@ -10,9 +11,11 @@ use timing::counts::PhiCount;
 impl Acc {
     /// A write to one output bit.
     // An address and a level are two parameters, since they are what the processor hands over: no function below keeps them.
-    #[tactic(auto, unfolding(crate::specs::Outputs::write_of))]
+    #[tactic(auto, unfolding(crate::specs::Outputs::write_of, crate::specs::Sound::sound))]
     pub fn write(&mut self, address: u16, v: bool)
-        ensures { self.new ≡ write_of address v self.old }
+        requires sound { sound self.old ≡ true }
+        ensures step { self.new ≡ write_of address v self.old }
+        ensures sound { sound self.new ≡ true }
     {
         match address {
             0..=10 if self.load.ldctrl => self.write_control(address, v),
@@ -27,7 +30,9 @@ impl Acc {
     }
 
     fn write_control(&mut self, address: u16, v: bool)
-        ensures { self.new ≡ control_written address v self.old }
+        requires sound { parts_sound self.old ≡ true }
+        ensures step { self.new ≡ control_written address v self.old }
+        ensures sound { parts_sound self.new ≡ true }
     {
         self.registers.control = with_bit::<8>(self.registers.control as u16, address, v) as u8;
         if address == 7 {
@@ -36,7 +41,9 @@ impl Acc {
     }
 
     fn write_interval(&mut self, address: u16, v: bool)
-        ensures { self.new ≡ interval_written address v self.old }
+        requires sound { parts_sound self.old ≡ true }
+        ensures step { self.new ≡ interval_written address v self.old }
+        ensures sound { parts_sound self.new ≡ true }
     {
         self.registers.interval = with_bit::<8>(self.registers.interval as u16, address, v) as u8;
         if address == 7 {
@@ -45,14 +52,18 @@ impl Acc {
     }
 
     fn drop_ldir(&mut self)
-        ensures { self.new ≡ ldir_fallen self.old }
+        requires sound { parts_sound self.old ≡ true }
+        ensures step { self.new ≡ ldir_fallen self.old }
+        ensures sound { parts_sound self.new ≡ true }
     {
         self.load.ldir = false;
         self.timer.load(self.registers.interval);
     }
 
     fn write_rates(&mut self, address: u16, v: bool)
-        ensures { self.new ≡ rates_written address v self.old }
+        requires sound { parts_sound self.old ≡ true }
+        ensures step { self.new ≡ rates_written address v self.old }
+        ensures sound { parts_sound self.new ≡ true }
     {
         if self.load.lrdr {
             self.registers.receive_rate = with_bit::<11>(self.registers.receive_rate, address, v);
@@ -68,7 +79,9 @@ impl Acc {
     fn write_flag(&mut self, address: u16, v: bool)
         requires low { 11 ≤ address }
         requires high { address ≤ 14 }
-        ensures { self.new ≡ flag_written address v self.old }
+        requires sound { parts_sound self.old ≡ true }
+        ensures step { self.new ≡ flag_written address v self.old }
+        ensures sound { parts_sound self.new ≡ true }
     {
         match address {
             11 => self.load.lxdr = v,
@@ -79,7 +92,9 @@ impl Acc {
     }
 
     fn write_ldir(&mut self, v: bool)
-        ensures { self.new ≡ ldir_written v self.old }
+        requires sound { parts_sound self.old ≡ true }
+        ensures step { self.new ≡ ldir_written v self.old }
+        ensures sound { parts_sound self.new ≡ true }
     {
         if self.load.ldir && !v {
             self.drop_ldir();
@@ -91,7 +106,9 @@ impl Acc {
     fn write_mode(&mut self, address: u16, v: bool)
         requires low { 15 ≤ address }
         requires high { address ≤ 21 }
-        ensures { self.new ≡ mode_written address v self.old }
+        requires sound { parts_sound self.old ≡ true }
+        ensures step { self.new ≡ mode_written address v self.old }
+        ensures sound { parts_sound self.new ≡ true }
     {
         match address {
             15 => self.modes.tstmd = v,
@@ -120,7 +137,8 @@ impl Acc {
 
     // The registers, the buffers and the levels last seen stay.
     fn reset(&mut self)
-        ensures { self.new ≡ reset_chip self.old }
+        ensures step { self.new ≡ reset_chip self.old }
+        ensures sound { parts_sound self.new ≡ true }
     {
         self.load = LoadFlags {
             ldctrl: true,
