@@ -1,8 +1,6 @@
 // Drives benches over all three cables from standard input, call by call, with events in their moments.
 #![tactic(auto)]
 
-use std::io;
-
 mod answers;
 mod session;
 
@@ -21,13 +19,13 @@ fn serve<C: Cable + Drop>(
     cable: C,
     setting: Result<(), Fault>,
     calls: &[Vec<u8>],
-) -> io::Result<()> {
+) -> anyhow::Result<()> {
     show_done(rt, setting)?;
     Session::new(cable).run(rt, calls)
 }
 
 // A line that begins with C makes a cable.
-fn begin(rt: &(impl Print + AllocGlobal), line: &[u8], calls: &[Vec<u8>]) -> io::Result<()> {
+fn begin(rt: &(impl Print + AllocGlobal), line: &[u8], calls: &[Vec<u8>]) -> anyhow::Result<()> {
     let numbers = read_numbers(rt.alloc(), line)?;
     if line.starts_with(b"C d") {
         let [toward_b, toward_a]: [u32; 2] = first_numbers(numbers.as_slice());
@@ -46,7 +44,9 @@ fn begin(rt: &(impl Print + AllocGlobal), line: &[u8], calls: &[Vec<u8>]) -> io:
 
 fn main(rt: HostRuntime) -> anyhow::Result<()> {
     let mut lines = Vec::new(rt.alloc());
-    for_each_line(rt.alloc(), rt.stdin(), |_, line| Ok(lines.push(line)?))?;
+    for_each_line(rt.alloc(), rt.stdin(), |_, line| -> anyhow::Result<()> {
+        Ok(lines.push(line)?)
+    })?;
     // each line that makes a cable stands before the calls of a bench over it
     for group in lines.chunk_by(|_, line| !line.starts_with(b"C")) {
         if let [line, calls @ ..] = group

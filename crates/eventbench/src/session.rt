@@ -6,7 +6,7 @@ use faults::End;
 use pair::event::Event;
 use pair::opening::Opening;
 use std::alloc::{AllocError, Global};
-use std::{array, io};
+use std::array;
 
 /// The numbers of a line, in order; its letters are no numbers.
 pub(crate) fn read_numbers(heap: Global, line: &[u8]) -> Result<Vec<u32>, AllocError> {
@@ -66,14 +66,15 @@ impl<C: Cable> Session<C> {
         }
     }
 
-    fn moment(&mut self, rt: &(impl Print + AllocGlobal), numbers: &[u32]) -> io::Result<()> {
+    fn moment(&mut self, rt: &(impl Print + AllocGlobal), numbers: &[u32]) -> anyhow::Result<()> {
         let mut events = read_events(rt.alloc(), numbers)?;
         let answer = self.bench.moment(events.as_mut_slice());
-        show(rt, answer.map(|()| Served(events.as_slice())))
+        show(rt, answer.map(|()| Served(events.as_slice())))?;
+        Ok(())
     }
 
     // A line is a letter, and the numbers of its call.
-    fn call(&mut self, rt: &(impl Print + AllocGlobal), line: &[u8]) -> io::Result<()> {
+    fn call(&mut self, rt: &(impl Print + AllocGlobal), line: &[u8]) -> anyhow::Result<()> {
         let numbers = read_numbers(rt.alloc(), line)?;
         let [a, b, c, d, e]: [u32; 5] = first_numbers(numbers.as_slice());
         let bench = &mut self.bench;
@@ -86,27 +87,28 @@ impl<C: Cable> Session<C> {
                     r: d,
                     interval: e,
                 };
-                show_done(rt, bench.open(opening))
+                show_done(rt, bench.open(opening))?
             }
-            [b'E', ..] => self.moment(rt, numbers.as_slice()),
-            [b'M', ..] => show_done(rt, bench.moments(a)),
-            [b'P', ..] => show_done(rt, bench.put(a, b, c, d)),
-            [b'G', ..] => show(rt, bench.get(a, b, c)),
-            [b'L', ..] => show_done(rt, bench.load(a, b)),
-            [b'T', ..] => show(rt, bench.take(a)),
-            [b'S' | b'K', ..] if !bench.is_open() => println!(rt; "-"),
+            [b'E', ..] => self.moment(rt, numbers.as_slice())?,
+            [b'M', ..] => show_done(rt, bench.moments(a))?,
+            [b'P', ..] => show_done(rt, bench.put(a, b, c, d))?,
+            [b'G', ..] => show(rt, bench.get(a, b, c))?,
+            [b'L', ..] => show_done(rt, bench.load(a, b))?,
+            [b'T', ..] => show(rt, bench.take(a))?,
+            [b'S' | b'K', ..] if !bench.is_open() => println!(rt; "-")?,
             // a number that names no end stands for B
-            [b'S', ..] => rt.println(bench.pins(End::try_from(a).unwrap_or(End::B))),
-            [b'K', ..] => rt.println(bench.clock()),
-            _ => Ok(()),
+            [b'S', ..] => rt.println(bench.pins(End::try_from(a).unwrap_or(End::B)))?,
+            [b'K', ..] => rt.println(bench.clock())?,
+            _ => {}
         }
+        Ok(())
     }
 
     pub(crate) fn run(
         &mut self,
         rt: &(impl Print + AllocGlobal),
         calls: &[Vec<u8>],
-    ) -> io::Result<()> {
+    ) -> anyhow::Result<()> {
         for line in calls {
             self.call(rt, line.as_slice())?;
         }
