@@ -1,7 +1,7 @@
 // A line of input as a call.
 use acc::chip::Registers;
 use arrayvec::ArrayVec;
-use console::numbers::read_number;
+use console::numbers::number_in;
 
 /// The calls, with their numbers in range.
 #[derive(Clone, Copy)]
@@ -51,7 +51,7 @@ pub(crate) fn read_command(line: &[u8]) -> Option<Command> {
     let letter = words.next()?;
     let mut numbers = ArrayVec::<u32, 4>::new();
     for word in words {
-        let number = read_number(word, 10).ok()?;
+        let number = number_in(word, 10)?;
         numbers.try_push(number).ok()?;
     }
     match (letter, numbers.as_slice()) {

@@ -1,5 +1,5 @@
 // One line of input: four numbers, then any known figures to compare with.
-use console::numbers::read_number;
+use console::numbers::number_in;
 use faults::{Cause, Fault};
 use sizing::line::Line;
 use std::num::NonZeroU32;
@@ -26,10 +26,10 @@ pub(crate) struct Request {
 // A decimal number, or a hexadecimal one behind 0x.
 fn read_field(field: &str) -> Result<u32, Fault> {
     let number = match field.strip_prefix("0x") {
-        Some(digits) => read_number(digits, 16),
-        None => read_number(field, 10),
+        Some(digits) => number_in(digits, 16),
+        None => number_in(field, 10),
     };
-    number.map_err(|_| Fault::from(Cause::BadFields))
+    number.ok_or(Fault::from(Cause::BadFields))
 }
 
 impl<'a> Known<'a> {

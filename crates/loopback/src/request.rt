@@ -1,5 +1,5 @@
 // One line of input: a control value, a rate, a wait and a label.
-use console::numbers::read_number;
+use console::numbers::number_in;
 use faults::{Cause, Fault};
 use std::str;
 
@@ -15,7 +15,7 @@ pub(crate) struct Request<'a> {
 fn read_field(field: Option<&[u8]>) -> Result<u32, Cause> {
     field
         .and_then(|bytes| str::from_utf8(bytes).ok())
-        .and_then(|digits| read_number(digits, 10).ok())
+        .and_then(|digits| number_in(digits, 10))
         .ok_or(Cause::BadFields)
 }
 
