@@ -1,5 +1,6 @@
 -- The tests of a moment, one after the other, are those of its definition. Assumes nothing.
-use Rattle.std.proofs.Common.{◌≡◌, ℕ, ◌+◌, cond, List, [], ◌∷◌, Some, refl, ap, arith}
+use Rattle.std.proofs.Common.{◌≡◌, ℕ, ◌+◌, cond, List, [], ◌∷◌, Some, Ok, Err, Result, is_ok, refl, ap, arith}
+use Rattle.faults.specs.declared.Fault.{Fault}
 use Rattle.pair.specs.declared.event.Event.{Event}
 use Rattle.pair.specs.Bench.{Bench}
 use Rattle.pair.specs.Calls.{moment_reply}
@@ -37,3 +38,8 @@ same_reply vs m =
     let repeated = repeats unbarred 0 vs in
     let recovering = shut (recoveries m) 0 vs in
     grind arith
+
+-- how an answer shows does not change whether the call was accepted
+pub shown_ok : (r : Result (Unit {0}) Fault) → is_ok (shown r) ≡ is_ok r
+shown_ok (Ok x) = refl
+shown_ok (Err f) = refl

@@ -68,7 +68,7 @@ ranks_are_moved vs m =
 pub ruleset ranks = (list_is_served, ranks_are_moved)
 
 -- moments without events, each of which is its φ clock
-clock_is_moved : (m : Bench) → clocked m ≡ moved [] m
+pub clock_is_moved : (m : Bench) → clocked m ≡ moved [] m
 unfolding moved set_all write_all
 clock_is_moved m = refl
 

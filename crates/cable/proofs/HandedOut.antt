@@ -85,7 +85,11 @@ module _ (c : Channel) (p : Pair) (law : LawfulChannel c) where
   long = rw length_struck (omega (arith, length_push c.waiting p))
 
   -- a step leaves as many pairs as there were, and a lawful channel
-  lawful_stepped : LawfulChannel (stepped c p)
+  pub length_stepped : length (stepped c p).waiting ≡ length c.waiting
+  unfolding stepped
+  length_stepped = length_behind (entered c p) (length c.waiting) long
+
+  pub lawful_stepped : LawfulChannel (stepped c p)
   unfolding stepped
   lawful_stepped = rw (length_behind (entered c p) (length c.waiting) long) (lawful_remaining (length c.waiting) c.flips law)
 
