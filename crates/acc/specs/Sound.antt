@@ -1,4 +1,4 @@
--- What every method of the chip asks and gives back. Assumes nothing.
+-- What an opened chip is, and stays whichever method is called; the methods that need it ask for it. Assumes nothing.
 use Rattle.std.specs.Prelude.{Bool, ◌&&◌, nat_le}
 use Rattle.sections.specs.Receive.{sound_receiver}
 use Rattle.sections.specs.Time.{sound_timer}

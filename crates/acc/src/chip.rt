@@ -63,7 +63,7 @@ pub struct Lines {
 
 /// One TMS 9902A.
 // That a chip is sound stands in the clauses of its methods and not in its type, and so do the facts of its transmitter, receiver and
-// timer: a type that sound ones alone have would ask of whoever makes one what reading and resetting it do not need.
+// timer: a type that sound ones alone have would ask of whoever makes one what reading, writing and resetting it do not need.
 #[derive(Clone, Copy)]
 pub struct Acc {
     pub registers: Registers,

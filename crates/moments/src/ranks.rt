@@ -32,12 +32,10 @@ impl Rank {
 
     // What an event of this rank does to the two chips.
     fn apply(self, chips: &mut Chips, event: Event)
-        requires sound_a { sound chips.old.a ≡ true }
-        requires sound_b { sound chips.old.b ≡ true }
         ensures a { chips.new.a ≡ touched self end.A event chips.old.a }
         ensures b { chips.new.b ≡ touched self end.B event chips.old.b }
-        ensures sound_a { sound chips.new.a ≡ true }
-        ensures sound_b { sound chips.new.b ≡ true }
+        ensures sound_a { sound chips.old.a ≡ true → sound chips.new.a ≡ true }
+        ensures sound_b { sound chips.old.b ≡ true → sound chips.new.b ≡ true }
     {
         let level = event.value == 1;
         match self {
@@ -53,12 +51,10 @@ impl Rank {
     // An event of this rank is served as number n, and the next one comes after it.
     fn serve_event(self, chips: &mut Chips, event: &mut Event, n: u32) -> u32
         requires fits { n + 1 < 2 ^ 32 }
-        requires sound_a { sound chips.old.a ≡ true }
-        requires sound_b { sound chips.old.b ≡ true }
         ensures turn { turn (serving result chips.new.a chips.new.b) event.new ≡ serve_one self (serving n chips.old.a chips.old.b) event.old }
         ensures most { result ≤ n + 1 }
-        ensures sound_a { sound chips.new.a ≡ true }
-        ensures sound_b { sound chips.new.b ≡ true }
+        ensures sound_a { sound chips.old.a ≡ true → sound chips.new.a ≡ true }
+        ensures sound_b { sound chips.old.b ≡ true → sound chips.new.b ≡ true }
     {
         if !self.serves(*event) {
             return n;
@@ -71,15 +67,13 @@ impl Rank {
     /// Serves the events of this rank in list order, with the numbers from `from` on. Answers the number of the next.
     pub fn serve(self, chips: &mut Chips, events: &mut [Event], from: u32) -> u32
         requires fits { from + length events.old < 2 ^ 32 }
-        requires sound_a { sound chips.old.a ≡ true }
-        requires sound_b { sound chips.old.b ≡ true }
         ensures a { chips.new.a ≡ served_at self end.A events.old chips.old.a }
         ensures b { chips.new.b ≡ served_at self end.B events.old chips.old.b }
         ensures list { events.new ≡ number_each (belongs self) from events.old }
         ensures next { result ≡ from + how_many (belongs self) events.old }
         ensures most { result ≤ from + length events.old }
-        ensures sound_a { sound chips.new.a ≡ true }
-        ensures sound_b { sound chips.new.b ≡ true }
+        ensures sound_a { sound chips.old.a ≡ true → sound chips.new.a ≡ true }
+        ensures sound_b { sound chips.old.b ≡ true → sound chips.new.b ≡ true }
     {
         // Each rank goes over the lent list by its index, and writes into each event that it serves.
         let mut n = from;
@@ -93,9 +87,8 @@ impl Rank {
 // A write to an output bit. Addresses above 31 have none.
 #[tactic(auto, unfolding(acc::specs::Outputs::write_of))]
 fn write_output(chip: &mut Acc, address: u32, v: bool)
-    requires sound { sound chip.old ≡ true }
     ensures step { chip.new ≡ write_of address v chip.old }
-    ensures sound { sound chip.new ≡ true }
+    ensures sound { sound chip.old ≡ true → sound chip.new ≡ true }
 {
     if address <= 31 {
         chip.write(address as u16, v);

@@ -80,9 +80,8 @@ impl Receiver {
 
     /// The received character has been seen: RBRL becomes 0.
     pub fn release(&mut self)
-        requires sound { sound_receiver self.old ≡ true }
         ensures step { self.new ≡ released self.old }
-        ensures sound { sound_receiver self.new ≡ true }
+        ensures sound { sound_receiver self.old ≡ true → sound_receiver self.new ≡ true }
     {
         self.rbrl = false;
     }

@@ -41,9 +41,8 @@ impl Timer {
 
     /// TIMELP and TIMERR have been seen: both become 0.
     pub fn acknowledge(&mut self)
-        requires sound { sound_timer self.old ≡ true }
         ensures step { self.new ≡ acknowledged self.old }
-        ensures sound { sound_timer self.new ≡ true }
+        ensures sound { sound_timer self.old ≡ true → sound_timer self.new ≡ true }
     {
         self.timelp = false;
         self.timerr = false;

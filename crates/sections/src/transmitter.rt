@@ -71,9 +71,8 @@ impl Transmitter {
 
     /// A write to bit k of the transmit buffer. Bit 7 resets XBRE as it loads.
     pub fn write_bit(&mut self, k: u16, v: bool)
-        requires sound { sound_transmitter self.old ≡ true }
         ensures step { self.new ≡ buffer_written k v self.old }
-        ensures sound { sound_transmitter self.new ≡ true }
+        ensures sound { sound_transmitter self.old ≡ true → sound_transmitter self.new ≡ true }
     {
         self.buffer = with_bit::<8>(self.buffer as u16, k, v) as u8;
         if k == 7 {

@@ -38,9 +38,8 @@ impl Acc {
     /// Sets what the DSR input is driven to. The next φ clock takes it.
     #[tactic(auto, unfolding(crate::specs::Sound::sound))]
     pub fn set_dsr(&mut self, active: bool)
-        requires sound { sound self.old ≡ true }
         ensures step { self.new ≡ dsr_set active self.old }
-        ensures sound { sound self.new ≡ true }
+        ensures sound { sound self.old ≡ true → sound self.new ≡ true }
     {
         self.lines.dsr_setting = active;
     }

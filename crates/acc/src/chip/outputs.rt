@@ -13,9 +13,8 @@ impl Acc {
     // An address and a level are two parameters, since they are what the processor hands over: no function below keeps them.
     #[tactic(auto, unfolding(crate::specs::Outputs::write_of, crate::specs::Sound::sound))]
     pub fn write(&mut self, address: u16, v: bool)
-        requires sound { sound self.old ≡ true }
         ensures step { self.new ≡ write_of address v self.old }
-        ensures sound { sound self.new ≡ true }
+        ensures sound { sound self.old ≡ true → sound self.new ≡ true }
     {
         match address {
             0..=10 if self.load.ldctrl => self.write_control(address, v),
@@ -30,9 +29,8 @@ impl Acc {
     }
 
     fn write_control(&mut self, address: u16, v: bool)
-        requires sound { parts_sound self.old ≡ true }
         ensures step { self.new ≡ control_written address v self.old }
-        ensures sound { parts_sound self.new ≡ true }
+        ensures sound { parts_sound self.old ≡ true → parts_sound self.new ≡ true }
     {
         self.registers.control = with_bit::<8>(self.registers.control as u16, address, v) as u8;
         if address == 7 {
@@ -41,9 +39,8 @@ impl Acc {
     }
 
     fn write_interval(&mut self, address: u16, v: bool)
-        requires sound { parts_sound self.old ≡ true }
         ensures step { self.new ≡ interval_written address v self.old }
-        ensures sound { parts_sound self.new ≡ true }
+        ensures sound { parts_sound self.old ≡ true → parts_sound self.new ≡ true }
     {
         self.registers.interval = with_bit::<8>(self.registers.interval as u16, address, v) as u8;
         if address == 7 {
@@ -52,18 +49,16 @@ impl Acc {
     }
 
     fn drop_ldir(&mut self)
-        requires sound { parts_sound self.old ≡ true }
         ensures step { self.new ≡ ldir_fallen self.old }
-        ensures sound { parts_sound self.new ≡ true }
+        ensures sound { parts_sound self.old ≡ true → parts_sound self.new ≡ true }
     {
         self.load.ldir = false;
         self.timer.load(self.registers.interval);
     }
 
     fn write_rates(&mut self, address: u16, v: bool)
-        requires sound { parts_sound self.old ≡ true }
         ensures step { self.new ≡ rates_written address v self.old }
-        ensures sound { parts_sound self.new ≡ true }
+        ensures sound { parts_sound self.old ≡ true → parts_sound self.new ≡ true }
     {
         if self.load.lrdr {
             self.registers.receive_rate = with_bit::<11>(self.registers.receive_rate, address, v);
@@ -79,9 +74,8 @@ impl Acc {
     fn write_flag(&mut self, address: u16, v: bool)
         requires low { 11 ≤ address }
         requires high { address ≤ 14 }
-        requires sound { parts_sound self.old ≡ true }
         ensures step { self.new ≡ flag_written address v self.old }
-        ensures sound { parts_sound self.new ≡ true }
+        ensures sound { parts_sound self.old ≡ true → parts_sound self.new ≡ true }
     {
         match address {
             11 => self.load.lxdr = v,
@@ -92,9 +86,8 @@ impl Acc {
     }
 
     fn write_ldir(&mut self, v: bool)
-        requires sound { parts_sound self.old ≡ true }
         ensures step { self.new ≡ ldir_written v self.old }
-        ensures sound { parts_sound self.new ≡ true }
+        ensures sound { parts_sound self.old ≡ true → parts_sound self.new ≡ true }
     {
         if self.load.ldir && !v {
             self.drop_ldir();
@@ -106,9 +99,8 @@ impl Acc {
     fn write_mode(&mut self, address: u16, v: bool)
         requires low { 15 ≤ address }
         requires high { address ≤ 21 }
-        requires sound { parts_sound self.old ≡ true }
         ensures step { self.new ≡ mode_written address v self.old }
-        ensures sound { parts_sound self.new ≡ true }
+        ensures sound { parts_sound self.old ≡ true → parts_sound self.new ≡ true }
     {
         match address {
             15 => self.modes.tstmd = v,

@@ -7,8 +7,8 @@ use Rattle.moments.proofs.ranks.Rank.serve.Goals as goal
 pub loop-i-preserved : goal.loop-i-preserved
 loop-i-preserved c = (
   omega (arith, c.loop-i.invariant.0, c.serve_event-n.ensures.most),
-  c.serve_event-n.ensures.sound_a,
-  c.serve_event-n.ensures.sound_b,
+  (λ sound. c.serve_event-n.ensures.sound_a (c.loop-i.invariant.1 sound)),
+  (λ sound. c.serve_event-n.ensures.sound_b (c.loop-i.invariant.2 sound)),
   pass_turn (serve_one c.args.self) (serving c.args.from c.args.chips.now.a c.args.chips.now.b) (serving c.loop-i.n c.loop-i.chips.a c.loop-i.chips.b) c.args.events.now c.loop-i.events c.loop-i.i _ _ _
       (omega arith) c.serve_event-n.ensures.turn c.loop-i.invariant.3,
 )
