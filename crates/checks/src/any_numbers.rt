@@ -12,6 +12,18 @@ use timing::counts::{InternalCount, PhiCount};
 // Longer than any countdown of a chip.
 const TOO_LONG: InternalCount = InternalCount(60000);
 
+// A chip with a divider count and a prescaler that no opened one gets to.
+fn unsound_chip() -> Acc {
+    Acc {
+        divider: PhiCount(9),
+        timer: Timer {
+            prescaler: TOO_LONG,
+            ..Timer::at(7)
+        },
+        ..Acc::opened(Registers::default())
+    }
+}
+
 #[test]
 fn a_reset_ends_any_countdown(rt: HostRuntime) {
     let mut receiver = Receiver {
@@ -58,11 +70,8 @@ fn a_chip_with_any_divider_count_can_be_read(rt: HostRuntime) {
 }
 
 #[test]
-fn a_chip_with_any_divider_count_can_be_written(rt: HostRuntime) {
-    let mut chip = Acc {
-        divider: PhiCount(9),
-        ..Acc::opened(Registers::default())
-    };
+fn a_chip_with_any_numbers_can_be_written(rt: HostRuntime) {
+    let mut chip = unsound_chip();
     chip.set_dsr(true);
     // RTS; then bit 0 of the transmit buffer, since no load flag is set
     chip.write(16, true);
@@ -128,15 +137,10 @@ fn events_are_served_at_chips_with_any_numbers(rt: HostRuntime) {
         ..write
     };
     let mut events = [write, setting, another];
-    let chip = Acc {
-        divider: PhiCount(9),
-        timer: Timer {
-            prescaler: TOO_LONG,
-            ..Timer::at(7)
-        },
-        ..Acc::opened(Registers::default())
+    let mut chips = Chips {
+        a: unsound_chip(),
+        b: unsound_chip(),
     };
-    let mut chips = Chips { a: chip, b: chip };
     let next = Rank::DsrSettings.serve(&mut chips, &mut events, 0);
     let next = Rank::WritesAt(End::A).serve(&mut chips, &mut events, next);
     let next = Rank::WritesAt(End::B).serve(&mut chips, &mut events, next);
